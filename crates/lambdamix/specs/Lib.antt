@@ -1,0 +1,15 @@
+pub mod Limits
+pub mod Arithmetic
+pub mod Falling
+pub mod Script
+pub mod Term
+pub mod Types
+pub mod Typing
+pub mod Checker
+pub mod Code
+pub mod Value
+pub mod Evaluation
+pub mod Rules
+pub mod Structure
+pub mod Specializing
+pub mod Demand

@@ -1,0 +1,23 @@
+-- The limits of paper 01, "Script file" and "Making". Each stands here alone. Assumes nothing.
+use Prim.Native.Nat.{ℕ}
+
+-- "Limits: 64 listed types, 16 inputs, 1 to 4,096 nodes, height 256"
+unfoldable pub maxTypes : ℕ
+maxTypes = 64
+
+unfoldable pub maxInputs : ℕ
+maxInputs = 16
+
+unfoldable pub maxNodes : ℕ
+maxNodes = 4096
+
+unfoldable pub maxHeight : ℕ
+maxHeight = 256
+
+-- "then depth (at most 2,000)"
+unfoldable pub maxDepth : ℕ
+maxDepth = 2000
+
+-- "13: fuel above 16,000"
+unfoldable pub maxFuel : ℕ
+maxFuel = 16000

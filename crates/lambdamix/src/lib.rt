@@ -1,0 +1,28 @@
+// The Rattle part of the calculus: the names that its definitions share with the code above it, and the
+// exact arithmetic of the six operators.
+
+// What a field of a node holds. The first variant is also what a field past the table holds.
+pub enum Use {
+    Nothing,
+    Name,
+    Child,
+    ParameterType,
+    Operation,
+}
+
+// The operators 0 to 5 of the paper, in its order: + - * / = <.
+pub enum Operator {
+    Add,
+    Subtract,
+    Multiply,
+    Divide,
+    Equal,
+    Less,
+}
+
+// What an operation gives: a number of 32 bits, or the reason for a stop.
+pub enum Outcome {
+    Value(i32),
+    OutOfRange,
+    DivisorZero,
+}
