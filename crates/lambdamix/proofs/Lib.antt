@@ -1,2 +1,4 @@
 pub mod Tests
 pub mod Falling
+pub mod Computing
+pub mod Trials

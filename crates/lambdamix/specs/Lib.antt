@@ -13,3 +13,6 @@ pub mod Rules
 pub mod Structure
 pub mod Specializing
 pub mod Demand
+pub mod Text
+pub mod Listing
+pub mod Trials
