@@ -5,7 +5,7 @@ use mathlib.Core.List.{List, [], _∷_}
 use lib.IntN.{ℤ, pos}
 use lib.ListN.{length, getD}
 use Rattle.lambdamix.specs.declared.Use.{Use}
-use Rattle.lambdamix.specs.declared.Use.the-variants.{Nothing, Name, Child, ParameterType, Operation}
+use Rattle.lambdamix.specs.declared.Use.the-variants.{Nothing, Name, Binder, Child, ParameterType, Operation}
 
 -- `TY`: "parameter type, result type". Listed function types count from 2.
 pub record FunctionType : Type 0 where
@@ -60,12 +60,12 @@ rows =
     row constant Nothing Nothing Nothing
     ∷ row variable Name Nothing Nothing
     ∷ row lift Child Nothing Nothing
-    ∷ row function Name ParameterType Child
+    ∷ row function Binder ParameterType Child
     ∷ row application Child Child Nothing
     ∷ row fix Child Nothing Nothing
     ∷ row conditional Child Child Child
     ∷ row operation Child Child Operation
-    ∷ row dynamicFunction Name Nothing Child
+    ∷ row dynamicFunction Binder Nothing Child
     ∷ row dynamicApplication Child Child Nothing
     ∷ row dynamicFix Child Nothing Nothing
     ∷ row dynamicIf Child Child Child
@@ -84,6 +84,7 @@ fields nd = nd .a ∷ nd .b ∷ nd .c ∷ []
 unfoldable pub ifChild : Use → ℕ → List ℕ → List ℕ
 ifChild Nothing f fs = fs
 ifChild Name f fs = fs
+ifChild Binder f fs = fs
 ifChild Child f fs = f ∷ fs
 ifChild ParameterType f fs = fs
 ifChild Operation f fs = fs
