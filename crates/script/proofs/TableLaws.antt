@@ -1,0 +1,43 @@
+-- Laws of the table of uses: what holds of its thirteen rows, by one computed test each. Assumes nothing.
+use Prim.Native.Nat.{ℕ, zero, suc, _≤_, _<_}
+use mathlib.Core.Path.{_≡_, refl, sym, ap, _∙_}
+use mathlib.Core.Bool.{Bool, true, false, _&&_}
+use mathlib.Core.List.{List, [], _∷_}
+use native.Mathlib.Omega.{arith}
+use lib.ListN.{getD, length, List·getD-eq-default, List·getD-map}
+use lib.Dec.{leb}
+use borrow.Author.Tests.{leb-true}
+use Rattle.lambdamix.specs.declared.Use.{Use}
+use Rattle.lambdamix.specs.declared.Use.the-variants.{Nothing}
+use Rattle.lambdamix.specs.Script.{Row, Node, rows, rowOf, blankRow}
+use Rattle.lambdamix.proofs.Tests.{and-both}
+use Rattle.script.specs.Kinds.{useOf, usesTable}
+
+-- a test passes at each entry of a table
+unfoldable pub every : {A : Type 0} → (A → Bool) → List A → Bool
+every p [] = true
+every p (x ∷ xs) = p x && every p xs
+
+-- so it passes wherever the table is read, if it passes at what is read past the end
+pub at-every : {A : Type 0} (p : A → Bool) (d : A) (xs : List A) → p d ≡ true → every p xs ≡ true → (k : ℕ) → p (getD xs k d) ≡ true
+unfolding every
+at-every p d [] h e k = h
+at-every p d (x ∷ xs) h e zero = and-both (p x) (every p xs) e .0
+at-every p d (x ∷ xs) h e (suc k) = at-every p d xs h (and-both (p x) (every p xs) e .1) k
+
+pub past-rows : (k j : ℕ) → 13 ≤ k → useOf k j ≡ Nothing
+unfolding useOf usesTable rows
+past-rows k j h = ap (λ (us : List Use). getD us j Nothing) (List·getD-eq-default usesTable [] h)
+
+three-fields : (k : ℕ) → length (getD usesTable k []) ≤ 3
+unfolding usesTable rows every
+three-fields k = leb-true _ _ (at-every (λ (us : List Use). leb (length us) 3) [] usesTable refl refl k)
+
+pub past-fields : (k j : ℕ) → 3 ≤ j → useOf k j ≡ Nothing
+unfolding useOf
+past-fields k j h = List·getD-eq-default (getD usesTable k []) Nothing (omega (arith, three-fields k))
+
+-- the uses of a node's row
+pub row-uses : (nd : Node) → rowOf nd .uses ≡ getD usesTable (nd .kind) []
+unfolding rowOf usesTable
+row-uses nd = sym (List·getD-map (λ (r : Row). r .uses) rows (nd .kind) blankRow)

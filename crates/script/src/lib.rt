@@ -1,0 +1,47 @@
+// The script file: reader, writer and the checks of structure that they share. Refusals 1 to 8 and 21.
+pub mod column;
+pub mod kinds;
+
+// A node's number, a name and a type's number have 16 bits each, and a place that wants one never takes another.
+pub struct NodeNumber(pub u16);
+
+pub struct Name(pub u16);
+
+pub struct TypeNumber(pub u16);
+
+// How many types, inputs and nodes a script has.
+pub struct Counts {
+    pub types: u16,
+    pub inputs: u16,
+    pub nodes: u16,
+}
+
+// The paper's number and place of a reply without code.
+pub struct Refusal {
+    pub number: u8,
+    pub place: usize,
+}
+
+// Whether a check refuses.
+pub enum Verdict {
+    Passed,
+    Refused(Refusal),
+}
+
+// The first place at which a test fails.
+pub enum Found {
+    Nowhere,
+    At(usize),
+}
+
+// The reader's answer.
+pub enum Reading {
+    Read(Counts),
+    Refused(Refusal),
+}
+
+// The writer's answer: how many bytes it wrote.
+pub enum Writing {
+    Written(usize),
+    Refused(Refusal),
+}
