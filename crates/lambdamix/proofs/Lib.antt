@@ -4,5 +4,8 @@ pub mod Falling
 pub mod Traces
 pub mod Agreement
 pub mod Bounds
+pub mod Suits
+pub mod Safety
+pub mod DemandThree
 pub mod Computing
 pub mod Trials

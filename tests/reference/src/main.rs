@@ -1,0 +1,184 @@
+//! A second implementation of the script maker, from the papers alone, and a
+//! corpus to compare the two.
+
+mod assemble;
+mod benchmake;
+mod checker;
+mod generate;
+mod listing;
+mod random;
+mod script;
+mod self_check;
+mod specializer;
+
+use std::fs;
+use std::io::{self, Read, Write};
+use std::path::{Path, PathBuf};
+use std::process::{Command, ExitCode, Stdio};
+use std::thread;
+
+use script::Reply;
+
+const USAGE: &str = "commands:
+  self-check
+  benchmake                      (standard input: a benchmake input)
+  assemble                       (standard input: a script as text)
+  corpus DIR SEED COUNT
+  expect DIR [FUEL]
+  bare DIR [FUEL]
+  read DIR
+  check DIR
+  differ PROGRAM SEED COUNT [FILE]
+";
+
+fn main() -> ExitCode {
+    let arguments: Vec<String> = std::env::args().skip(1).collect();
+    let words: Vec<&str> = arguments.iter().map(String::as_str).collect();
+    match run(&words) {
+        Ok(true) => ExitCode::SUCCESS,
+        Ok(false) => ExitCode::FAILURE,
+        Err(problem) => {
+            eprintln!("{problem}");
+            ExitCode::from(2)
+        }
+    }
+}
+
+/// Runs a command and tells whether all it looked at was well.
+fn run(words: &[&str]) -> Result<bool, String> {
+    match *words {
+        ["self-check"] => Ok(self_check::self_check()),
+        ["benchmake"] => print(benchmake::benchmake(&standard_input()?).as_bytes()),
+        ["assemble"] => {
+            let text = String::from_utf8(standard_input()?).map_err(|e| e.to_string())?;
+            print(&script::encode(&assemble::assemble(&text)?))
+        }
+        ["corpus", dir, seed, count] => corpus(dir, number(seed)?, number(count)?),
+        ["expect", dir] => expect(dir, benchmake::FUEL),
+        ["expect", dir, fuel] => expect(dir, number(fuel)? as usize),
+        ["bare", dir] => bare(dir, benchmake::FUEL),
+        ["bare", dir, fuel] => bare(dir, number(fuel)? as usize),
+        ["read", dir] => tell(dir, |input| place(script::read(benchmake::split(input).0))),
+        ["check", dir] => tell(dir, |input| place(benchmake::accept(input))),
+        ["differ", program, seed, count] => differ(program, number(seed)?, number(count)?, None),
+        ["differ", program, seed, count, file] => {
+            differ(program, number(seed)?, number(count)?, Some(Path::new(file)))
+        }
+        _ => Err(USAGE.to_string()),
+    }
+}
+
+fn number(word: &str) -> Result<u64, String> {
+    word.parse().map_err(|_| format!("{word} is no number"))
+}
+
+fn standard_input() -> Result<Vec<u8>, String> {
+    let mut bytes = Vec::new();
+    io::stdin().read_to_end(&mut bytes).map_err(|e| e.to_string())?;
+    Ok(bytes)
+}
+
+fn print(bytes: &[u8]) -> Result<bool, String> {
+    io::stdout().write_all(bytes).map_err(|e| e.to_string())?;
+    Ok(true)
+}
+
+/// Writes the first inputs of a seeded sequence.
+fn corpus(dir: &str, seed: u64, count: u64) -> Result<bool, String> {
+    fs::create_dir_all(dir).map_err(|e| format!("{dir}: {e}"))?;
+    for index in 0..count {
+        let path = Path::new(dir).join(format!("{index:04}.bin"));
+        fs::write(&path, generate::input(seed, index))
+            .map_err(|e| format!("{}: {e}", path.display()))?;
+    }
+    Ok(true)
+}
+
+/// Number, place and steps of the making of each file.
+fn expect(dir: &str, fuel: usize) -> Result<bool, String> {
+    tell(dir, |input| match benchmake::answer(input, fuel) {
+        Ok(made) => format!("0 0 {}", made.steps),
+        Err(Reply { number, place, steps }) => format!("{number} {place} {steps}"),
+    })
+}
+
+/// The same for the bare run.
+fn bare(dir: &str, fuel: usize) -> Result<bool, String> {
+    tell(dir, |input| {
+        let script = script::read(benchmake::split(input).0);
+        match script.and_then(|script| benchmake::make(input, &script, fuel)) {
+            Ok(made) => format!("0 0 {}", made.steps),
+            Err(Reply { number, place, steps }) => format!("{number} {place} {steps}"),
+        }
+    })
+}
+
+fn place<T>(result: Result<T, Reply>) -> String {
+    match result {
+        Ok(_) => "0 0".to_string(),
+        Err(Reply { number, place, .. }) => format!("{number} {place}"),
+    }
+}
+
+/// Prints a line for each file of a corpus: its name, and what is told of it.
+fn tell(dir: &str, about: impl Fn(&[u8]) -> String) -> Result<bool, String> {
+    let entries = fs::read_dir(dir).map_err(|e| format!("{dir}: {e}"))?;
+    let mut paths: Vec<PathBuf> = entries
+        .filter_map(|entry| Some(entry.ok()?.path()))
+        .filter(|path| path.extension().is_some_and(|ending| ending == "bin"))
+        .collect();
+    paths.sort();
+    let mut lines = String::new();
+    for path in paths {
+        let input = fs::read(&path).map_err(|e| format!("{}: {e}", path.display()))?;
+        let name = path.file_name().unwrap_or_default().to_string_lossy();
+        lines.push_str(&format!("{name} {}\n", about(&input)));
+    }
+    print(lines.as_bytes())
+}
+
+/// Feeds seeded inputs to a program and compares what it prints with the own
+/// answer. The first input that differs is kept in a file.
+fn differ(program: &str, seed: u64, count: u64, keep: Option<&Path>) -> Result<bool, String> {
+    let mut differences = 0;
+    for index in 0..count {
+        let input = generate::input(seed, index);
+        let wanted = benchmake::benchmake(&input);
+        let got = printed_by(program, input.clone())?;
+        if got.as_deref() == Some(wanted.as_bytes()) {
+            continue;
+        }
+        differences += 1;
+        if differences == 1 {
+            println!("input {index}: wanted {:?}", shortened(wanted.as_bytes()));
+            match &got {
+                Some(got) => println!("input {index}: got {:?}", shortened(got)),
+                None => println!("input {index}: ended by a signal"),
+            }
+            if let Some(path) = keep {
+                fs::write(path, &input).map_err(|e| format!("{}: {e}", path.display()))?;
+            }
+        }
+    }
+    println!("{count} inputs, {differences} differences");
+    Ok(differences == 0)
+}
+
+fn shortened(text: &[u8]) -> String {
+    String::from_utf8_lossy(&text[..text.len().min(200)]).into_owned()
+}
+
+/// What a program prints for an input; nothing if a signal ended it.
+fn printed_by(program: &str, input: Vec<u8>) -> Result<Option<Vec<u8>>, String> {
+    let mut child = Command::new(program)
+        .stdin(Stdio::piped())
+        .stdout(Stdio::piped())
+        .spawn()
+        .map_err(|e| format!("{program}: {e}"))?;
+    let mut pipe = child.stdin.take().expect("a pipe to the program");
+    // A program may end before it has read everything.
+    let feeder = thread::spawn(move || pipe.write_all(&input).ok());
+    let output = child.wait_with_output().map_err(|e| format!("{program}: {e}"))?;
+    feeder.join().ok();
+    Ok(output.status.code().map(|_| output.stdout))
+}
