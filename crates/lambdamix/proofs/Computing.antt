@@ -3,14 +3,14 @@ use Rattle.lambdamix.specs.Limits.{maxTypes, maxInputs, maxNodes, maxHei
 use Rattle.lambdamix.specs.Arithmetic.{settle, divideBy, arithmetic}
 use Rattle.lambdamix.specs.Falling.{guarded, below, fallingBy, falling}
 use Rattle.lambdamix.specs.Script.{inputCount, nodeCount, root, nodeAt, rows, rowOf, fields, ifChild, childFields, children}
-use Rattle.lambdamix.specs.Term.{arity, childAt, operatorOf, build, terms, treeStep, tree, height}
+use Rattle.lambdamix.specs.Term.{arity, childAt, operatorOf, build, terms, treeStep, tree, height, nodeOf}
 use Rattle.lambdamix.specs.Types.{sameType, typeBy, typeStep, typeOf, typeCount, someType, listed}
 use Rattle.lambdamix.specs.Typing.{typeAtBy, typeAt, inputTypeBy, inputType, contextFrom, inputContext}
 use Rattle.lambdamix.specs.Checker.{lowerBy, lower, both, own, rule, provided, varRule, liftRule, abstrBy, abstrRule, applyRule, fixRule, ifRule, opRule, abstrDynRule, allDynamic, dynRule, gather, check, rootRule, checkedRoot, annotationRefusal}
 use Rattle.lambdamix.specs.Structure.{firstBy, firstFailing, refusedAt, orElse, oneIf, occurrences, uses, usedOnce, useRefusal, lowEnough, heightRefusal, lowestBy, lowest, member, unlessBound, unbound, scopeRefusal, structureRefusal}
 use Rattle.lambdamix.specs.Code.{size, codeHeight, fits, operatorNumber, formNode, top, tops, nodesFrom, written}
 use Rattle.lambdamix.specs.Value.{valueAtBy, valueAt, stopNumber, stopPlace, andThen, _>>=_, give, halt, wantNumber, wantCode, wantFunction, found}
-use Rattle.lambdamix.specs.Evaluation.{nodeOf, jobPlace, exactly, branchBy, branch, fresh, apply, unfoldOnce, visitAll, visited, performed, run}
+use Rattle.lambdamix.specs.Evaluation.{jobPlace, exactly, branchBy, branch, fresh, apply, unfoldOnce, visitAll, visited, performed, run}
 use Rattle.lambdamix.specs.Specializing.{inputValue, settingsAfter, environmentFrom, inputEnvironment, staticInputs, rootAnswer, rootRun, specialized, madeBy, answerReply, refusedBy, callRefusal, unlessRefused, make, bareRun}
 use Rattle.lambdamix.specs.Text.{ascii, digitsBy, digitsStep, digits, decimal}
 use Rattle.lambdamix.specs.Listing.{nameBy, nameText, operatorText, formerText, spaced, group, termText, listing}

@@ -6,6 +6,7 @@ pub mod Term
 pub mod Types
 pub mod Typing
 pub mod Checker
+pub mod Fault
 pub mod Code
 pub mod Value
 pub mod Evaluation
