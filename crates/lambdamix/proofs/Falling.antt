@@ -35,3 +35,22 @@ pub falling-step : {A : Type 0} (d : A) (f : (ℕ → A) → ℕ → A) (n : ℕ
 unfolding falling fallingBy
 falling-step d f n =
     ap (λ s. f s n) (below-same n d (fallingBy d f n) (falling d f) (λ m r. enough d f n (suc m) m r (omega arith)))
+
+fallingBy-keeps :
+    {A : Type 0} (P : A → Type 0) (d : A) (f : (ℕ → A) → ℕ → A) → P d →
+    ((self : ℕ → A) → ((m : ℕ) → P (self m)) → (n : ℕ) → P (f self n)) → (g n : ℕ) → P (fallingBy d f g n)
+unfolding fallingBy below guarded
+fallingBy-keeps P d f base step zero n = base
+fallingBy-keeps {A} P d f base step (suc g) n =
+    step (below n d (fallingBy d f g)) (λ m. go (ltb m n) m (fallingBy-keeps P d f base step g m)) n
+  where
+    go : (b : Bool) (m : ℕ) → P (fallingBy d f g m) → P (guarded b d (fallingBy d f g) m)
+    go true m p = p
+    go false m p = base
+
+-- What holds of the default, and of each step whose answers below it holds of, holds of every answer.
+pub falling-keeps :
+    {A : Type 0} (P : A → Type 0) (d : A) (f : (ℕ → A) → ℕ → A) → P d →
+    ((self : ℕ → A) → ((m : ℕ) → P (self m)) → (n : ℕ) → P (f self n)) → (n : ℕ) → P (falling d f n)
+unfolding falling
+falling-keeps P d f base step n = fallingBy-keeps P d f base step (suc n) n

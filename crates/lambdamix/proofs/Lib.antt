@@ -7,6 +7,7 @@ pub mod LowestFault
 pub mod Traces
 pub mod Agreement
 pub mod Bounds
+pub mod Range
 pub mod Suits
 pub mod Safety
 pub mod Structure
