@@ -28,6 +28,9 @@ const USAGE: &str = "commands:
   bare DIR [FUEL]
   read DIR
   check DIR
+  pack FILE SEED COUNT
+  pack-scripts FILE SEED COUNT
+  packed read|check|benchmake FILE
   differ PROGRAM SEED COUNT [FILE]
 ";
 
@@ -60,6 +63,20 @@ fn run(words: &[&str]) -> Result<bool, String> {
         ["bare", dir, fuel] => bare(dir, number(fuel)? as usize),
         ["read", dir] => tell(dir, |input| place(script::read(benchmake::split(input).0))),
         ["check", dir] => tell(dir, |input| place(benchmake::accept(input))),
+        ["pack", file, seed, count] => pack(file, number(count)?, |k| {
+            Ok(generate::input(number(seed)?, k))
+        }),
+        ["pack-scripts", file, seed, count] => pack(file, number(count)?, |k| {
+            let input = generate::input(number(seed)?, k);
+            // Every fourth keeps the settings behind the script, which makes the length wrong.
+            let whole = k % 4 == 0;
+            Ok(if whole { input } else { benchmake::split(&input).0.to_vec() })
+        }),
+        ["packed", "read", file] => tell_packed(file, |input| place(script::read(input)) + "\n"),
+        ["packed", "check", file] => tell_packed(file, |input| {
+            place(script::read(input).and_then(|script| checker::check(&script))) + "\n"
+        }),
+        ["packed", "benchmake", file] => tell_packed(file, benchmake::benchmake),
         ["differ", program, seed, count] => differ(program, number(seed)?, number(count)?, None),
         ["differ", program, seed, count, file] => {
             differ(program, number(seed)?, number(count)?, Some(Path::new(file)))
@@ -133,6 +150,40 @@ fn tell(dir: &str, about: impl Fn(&[u8]) -> String) -> Result<bool, String> {
         let input = fs::read(&path).map_err(|e| format!("{}: {e}", path.display()))?;
         let name = path.file_name().unwrap_or_default().to_string_lossy();
         lines.push_str(&format!("{name} {}\n", about(&input)));
+    }
+    print(lines.as_bytes())
+}
+
+/// Writes inputs into one file, each behind its length in four bytes.
+fn pack(
+    file: &str,
+    count: u64,
+    input: impl Fn(u64) -> Result<Vec<u8>, String>,
+) -> Result<bool, String> {
+    let mut bytes = Vec::new();
+    for index in 0..count {
+        let one = input(index)?;
+        bytes.extend((one.len() as u32).to_le_bytes());
+        bytes.extend(one);
+    }
+    fs::write(file, bytes).map_err(|e| format!("{file}: {e}"))?;
+    Ok(true)
+}
+
+/// Prints for each input of such a file its number and what is told of it.
+fn tell_packed(file: &str, about: impl Fn(&[u8]) -> String) -> Result<bool, String> {
+    let bytes = fs::read(file).map_err(|e| format!("{file}: {e}"))?;
+    let mut lines = String::new();
+    let mut rest = bytes.as_slice();
+    let mut index = 0;
+    while let Some((head, tail)) = rest.split_first_chunk::<4>() {
+        let length = u32::from_le_bytes(*head) as usize;
+        if tail.len() < length {
+            return Err(format!("{file}: input {index} is cut short"));
+        }
+        lines.push_str(&format!("{index} {}", about(&tail[..length])));
+        rest = &tail[length..];
+        index += 1;
     }
     print(lines.as_bytes())
 }
