@@ -64,7 +64,7 @@ mutual
   top-last (fn x c) k = simp length-append (omega (arith, top-last c k))
   top-last (form f cs) k = simp length-append (omega (arith, after-last cs k))
 
-  after-last : (cs : Codes) (k : ℕ) → after k cs ≡ k + length (allNodesFrom k cs)
+  pub after-last : (cs : Codes) (k : ℕ) → after k cs ≡ k + length (allNodesFrom k cs)
   after-last nilC k = omega arith
   after-last (consC c cs) k = simp length-append (omega (arith, top-last c k, after-last cs (suc (top k c))))
 

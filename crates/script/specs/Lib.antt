@@ -4,3 +4,6 @@ pub mod Refusals
 pub mod Tables
 pub mod Kinds
 pub mod Replies
+pub mod Encodable
+pub mod Written
+pub mod AcceptedFile

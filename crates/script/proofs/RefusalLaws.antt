@@ -1,0 +1,76 @@
+-- What a refusal that is none says of its parts, and back: for the steps of an order, for one test and for a test of records
+-- in a row. Assumes nothing.
+use Prim.Native.Nat.{ℕ, zero, suc, _+_, _<_}
+use mathlib.Core.Path.{_≡_, refl, ap, _∙_}
+use mathlib.Core.Bool.{Bool, true, false}
+use mathlib.Core.Option.{Option, none, some}
+use lib.Dec.{leb}
+use native.Mathlib.Omega.{arith}
+use Rattle.lambdamix.specs.Checker.{Refusal}
+use Rattle.lambdamix.specs.Structure.{firstBy, firstFailing, orElse}
+use Rattle.script.specs.Refusals.{refusedUnless, refusedRecord, earlier, earlierBy}
+
+some-not-none : {A : Type 0} {a : A} → some a ≡ none → ⊥
+some-not-none e = let z : _≡_ {A = ℕ} 0 1 = cc in omega arith
+
+-- ---- an order of refusals
+
+pub neither : {A : Type 0} (r s : Option A) → orElse r s ≡ none → (r ≡ none) × (s ≡ none)
+unfolding orElse
+neither none s e = (refl, e)
+neither (some a) s e = absurd (some-not-none e)
+
+pub no-earlier : (r s : Option Refusal) → earlier r s ≡ none → (r ≡ none) × (s ≡ none)
+unfolding earlier earlierBy
+no-earlier none s e = (refl, e)
+no-earlier (some a) none e = absurd (some-not-none e)
+no-earlier (some a) (some b) e = absurd (by (leb (a .place) (b .place)) e)
+  where
+    by : (t : Bool) → earlierBy t a b ≡ none → ⊥
+    by true d = some-not-none d
+    by false d = some-not-none d
+
+-- ---- one test
+
+pub not-refused : (t : Bool) (k p : ℕ) → refusedUnless t k p ≡ none → t ≡ true
+unfolding refusedUnless
+not-refused true k p e = refl
+not-refused false k p e = absurd (some-not-none e)
+
+-- a test that passes is passed over
+pub pass-over : {t : Bool} (k p : ℕ) (r : Option Refusal) → t ≡ true → orElse (refusedUnless t k p) r ≡ r
+unfolding refusedUnless orElse
+pass-over k p r e = rw e
+
+-- ---- records in a row
+
+pub no-record : (k : ℕ) (offset : ℕ → ℕ) (r : Option ℕ) → refusedRecord k offset r ≡ none → r ≡ none
+unfolding refusedRecord
+no-record k offset none e = refl
+no-record k offset (some j) e = absurd (some-not-none e)
+
+firstBy-none : (t : Bool) (i : ℕ) (r : Option ℕ) → firstBy t i r ≡ none → (t ≡ true) × (r ≡ none)
+unfolding firstBy
+firstBy-none true i r e = (refl, e)
+firstBy-none false i r e = absurd (some-not-none e)
+
+none-fails : (p : ℕ → Bool) (i n : ℕ) → ((j : ℕ) → j < n → p (i + j) ≡ true) → firstFailing p i n ≡ none
+unfolding firstFailing firstBy
+none-fails p i zero h = refl
+none-fails p i (suc n) h =
+    let e : p i ≡ true = ap p (omega arith) ∙ h 0 (omega arith) in
+    rw e (none-fails p (suc i) n (λ j l. ap p (omega arith) ∙ h (suc j) (omega arith)))
+
+passes-from : (p : ℕ → Bool) (i n : ℕ) → firstFailing p i n ≡ none → (j : ℕ) → j < n → p (i + j) ≡ true
+unfolding firstFailing
+passes-from p i zero e j l = let z : ⊥ = omega arith in absurd z
+passes-from p i (suc n) e zero l = ap p (omega arith) ∙ firstBy-none _ _ _ e .0
+passes-from p i (suc n) e (suc j) l =
+    ap p (omega arith) ∙ passes-from p (suc i) n (firstBy-none _ _ _ e .1) j (omega arith)
+
+-- no record fails exactly if each passes
+pub all-pass : (p : ℕ → Bool) (n : ℕ) → ((j : ℕ) → j < n → p j ≡ true) → firstFailing p 0 n ≡ none
+all-pass p n h = none-fails p 0 n (λ j l. ap p (omega arith) ∙ h j l)
+
+pub passes : (p : ℕ → Bool) (n : ℕ) → firstFailing p 0 n ≡ none → (j : ℕ) → j < n → p j ≡ true
+passes p n e j l = ap p (omega arith) ∙ passes-from p 0 n e j l
