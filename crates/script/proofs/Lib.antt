@@ -6,3 +6,4 @@ pub mod Layouts
 pub mod FileLaws
 pub mod WrittenContent
 pub mod AcceptedAgain
+pub mod FileTrials

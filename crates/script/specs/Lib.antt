@@ -7,3 +7,4 @@ pub mod Replies
 pub mod Encodable
 pub mod Written
 pub mod AcceptedFile
+pub mod FileTrials
