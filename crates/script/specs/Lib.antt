@@ -1,9 +1,12 @@
 pub mod Bytes
 pub mod File
+pub mod Kinds
 pub mod Refusals
 pub mod Tables
-pub mod Kinds
 pub mod Replies
+pub mod Columns
+pub mod Heads
+pub mod Walks
 pub mod Encodable
 pub mod Written
 pub mod AcceptedFile

@@ -1,0 +1,19 @@
+-- `script::structure::first_misused` meets its contract: a capped count is one where the node is used once. Assumes nothing.
+use borrow.Author.Needs.{needs}
+use mathlib.Core.Path.{_∙_}
+use native.Mathlib.Omega.{arith}
+use Rattle.lambdamix.specs.Limits.{maxNodes}
+use Rattle.script.specs.Walks.{usedOnceAt}
+use Rattle.script.proofs.FirstFailing.{first-same}
+use Rattle.script.proofs.UseCounts.{counted-once}
+use Rattle.script.proofs.structure.first_misused.Statement.{statement}
+use Rattle.script.proofs.structure.first_misused.Tie as tie
+
+returns : tie.Need-returns
+unfolding usedOnceAt maxNodes
+returns c =
+    c .first-not-one .ensures
+    ∙ first-same _ _ 0 _ (λ j l. counted-once _ 4096 _ (c .before .before .before .count-nodes .ensures) j (omega arith))
+
+pub first-misused-spec : {M : Type 1} → statement M
+first-misused-spec = tie.close (tie.spec (λ c. search needs) (λ c κs. search needs) (λ c. search needs) (λ c. search needs) (λ c κs. search needs) returns)
