@@ -66,7 +66,7 @@ put-value {w = w} e p q = rw (← e, halves w) (put-both p refl q)
 
 -- ---- records
 
-records-append :
+pub records-append :
     {A : Type 0} (f : A → List ℕ) (xs ys : List A) → records f (xs ++ ys) ≡ records f xs ++ records f ys
 unfolding records
 records-append f [] ys = refl

@@ -56,7 +56,7 @@ fn value_at(out: &mut [u8], at: usize, v: i32)
 }
 
 // A record of each kind at a place.
-fn head_at(out: &mut [u8], at: usize, n: Counts)
+pub fn head_at(out: &mut [u8], at: usize, n: Counts)
     ensures { λ r. ⌜ Put (now (out .entry)) at (headRow (n .types) (n .inputs) (n .nodes)) (now (out .exit)) ⌝ }
 {
     if at < out.len() {
@@ -86,7 +86,7 @@ fn input_at(out: &mut [u8], at: usize, input: u16)
     }
 }
 
-fn node_at(out: &mut [u8], at: usize, kind: u8, a: u16, b: u16, c: u16, value: i32)
+pub fn node_at(out: &mut [u8], at: usize, kind: u8, a: u16, b: u16, c: u16, value: i32)
     ensures { λ r. ⌜ Put (now (out .entry)) at (nodeBytes (record { kind = kind; a = a; b = b; c = c; value = value })) (now (out .exit)) ⌝ }
 {
     if at < out.len() {
@@ -113,7 +113,7 @@ fn types_at(out: &mut [u8], n: Counts, parameters: &[u16], results: &[u16])
     }
 }
 
-fn inputs_at(out: &mut [u8], n: Counts, inputs: &[u16])
+pub fn inputs_at(out: &mut [u8], n: Counts, inputs: &[u16])
     ensures { λ r. ⌜ Put (now (out .entry)) (8 + 6 * n .types) (records inputBytes (numbered (inputRow (now (inputs .entry))) 0 (n .inputs))) (now (out .exit)) ⌝ }
 {
     let first = 8 + 6 * (n.types as usize);

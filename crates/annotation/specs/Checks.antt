@@ -1,0 +1,10 @@
+-- The checker's reply on counts and tables: paper 01, "Order": 1 to 8 as the file of the tables, "then 9 and 10 together, 11".
+-- Assumes nothing.
+use Prim.Native.Nat.{ℕ}
+use mathlib.Core.Option.{Option}
+use Rattle.lambdamix.specs.Checker.{Refusal, annotationRefusal}
+use Rattle.lambdamix.specs.Structure.{orElse}
+use Rattle.script.specs.Tables.{Tables, tablesScript, tablesRefusal}
+
+unfoldable pub checkRefusal : ℕ → ℕ → ℕ → Tables → Option Refusal
+checkRefusal t i n x = orElse (tablesRefusal t i n x) (annotationRefusal (tablesScript t i n x))

@@ -1,0 +1,3 @@
+pub mod Checks
+pub mod Fields
+pub mod Answers

@@ -1,0 +1,10 @@
+pub mod Digits
+pub mod Writing
+pub mod Signs
+pub mod WordLaws
+pub mod NodeLaws
+pub mod Trees
+pub mod Passed
+pub mod Printed
+pub mod OwnBytes
+pub mod ListingBound

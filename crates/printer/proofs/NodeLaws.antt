@@ -1,0 +1,50 @@
+-- The text of a node from those of its children, as the walk puts it together. Assumes nothing.
+use Prim.Native.Nat.{ℕ, _≤_, _<_}
+use mathlib.Core.Path.{_≡_}
+use mathlib.Core.List.{List}
+use lib.IntN.{ℤ}
+use borrow.Author.Tests.{le-ltb}
+use Rattle.lambdamix.specs.declared.Use.{Use}
+use Rattle.lambdamix.specs.Falling.{guarded, below}
+use Rattle.lambdamix.specs.Script.{Node}
+use Rattle.lambdamix.specs.Text.{digits}
+use Rattle.script.specs.Kinds.{useOf}
+use Rattle.lambdamix.proofs.Falling.{falling-step, below-at}
+use Rattle.printer.specs.declared.Word.{Word}
+use Rattle.printer.specs.Places.{Placed}
+use Rattle.printer.specs.Nodes.{wordOf, wordText, framed, fieldText, nodeText, nodesText}
+use Rattle.printer.proofs.Writing.{join}
+
+-- a child below its parent, and what stands for one that is not
+module _ (n : ℕ) (d : List ℕ) (f : ℕ → List ℕ) (m : ℕ) {at e : ℕ} {x y : List ℕ} where
+  pub child-placed : m < n → Placed (f m) at x y e → Placed (below n d f m) at x y e
+  child-placed h p = rw (below-at n d f m h) p
+
+  pub no-child-placed : n ≤ m → Placed d at x y e → Placed (below n d f m) at x y e
+  unfolding below guarded
+  no-child-placed h p = rw (le-ltb m n h) p
+
+-- one step
+pub node-step :
+    (n : ℕ) (nodes : ℕ → Node) (i : ℕ) →
+    nodesText n nodes i ≡ nodeText n (below i (digits 0) (nodesText n nodes)) (nodes i)
+unfolding nodesText
+node-step n nodes i = falling-step (digits 0) (λ self j. nodeText n self (nodes j)) i
+
+-- its pieces, one behind the other: what the code reads of the node is what the table has there
+module _ (n : ℕ) (nodes : ℕ → Node) (i : ℕ) where
+  abbrev part : Word → Use → ℕ → List ℕ
+  part w u f = fieldText n (below i (digits 0) (nodesText n nodes)) w u f
+
+  pub node-placed :
+      {k a b c : ℕ} {z : ℤ} {w : Word} {u v t : Use} →
+      k ≡ nodes i .kind → a ≡ nodes i .a → b ≡ nodes i .b → c ≡ nodes i .c → z ≡ nodes i .value →
+      w ≡ wordOf k → u ≡ useOf k 0 → v ≡ useOf k 1 → t ≡ useOf k 2 →
+      {at p₁ p₂ p₃ p₄ p₅ e : ℕ} {x x₁ x₂ x₃ x₄ x₅ y : List ℕ} →
+      Placed (framed w 40) at x x₁ p₁ → Placed (wordText w c z) p₁ x₁ x₂ p₂ → Placed (part w u a) p₂ x₂ x₃ p₃ →
+      Placed (part w v b) p₃ x₃ x₄ p₄ → Placed (part w t c) p₄ x₄ x₅ p₅ → Placed (framed w 41) p₅ x₅ y e →
+      Placed (nodesText n nodes i) at x y e
+  unfolding nodeText
+  node-placed ek ea eb ec ez ew eu ev et first head one two three last =
+      rw (node-step n nodes i)
+      (rw (eu, ev, et, ew, ek, ea, eb, ec, ez) at (join (join (join (join (join first head) one) two) three) last))

@@ -1,0 +1,95 @@
+-- From the walk's promise to the listing's: the text that it puts is the script's listing, and it is put whole or not at all.
+-- Assumes nothing.
+use Prim.Native.Nat.{ℕ, _+_, _≤_, _<_, min}
+use mathlib.Core.Path.{_≡_, refl, ap, ap₂, _∙_}
+use mathlib.Core.Bool.{true, false}
+use mathlib.Core.List.{List, [], _∷_, _++_}
+use mathlib.Core.Option.{none}
+use native.Mathlib.Omega.{arith}
+use lib.IntN.{ℤ}
+use lib.ListN.{length}
+use lib.Dec.{leb}
+use borrow.Author.Tests.{le-leb, lt-leb}
+use Rattle.lambdamix.specs.Script.{Script, Node, nodeAt, nodeCount, inputCount, root, blankNode}
+use Rattle.lambdamix.specs.Text.{ascii}
+use Rattle.lambdamix.specs.Listing.{listing}
+use Rattle.script.specs.declared.Counts.{Counts}
+use Rattle.script.specs.File.{numbered}
+use Rattle.script.specs.Refusals.{refusedUnless}
+use Rattle.script.specs.Tables.{Tables, rowNode, rowInput, tablesScript, tablesRefusal, over}
+use Rattle.script.proofs.RefusalLaws.{neither}
+use Rattle.script.proofs.RecordLaws.{numbered-length, numbered-at}
+use Rattle.printer.specs.declared.Listing.the-variants.{Listed, TooShort}
+use Rattle.printer.specs.Nodes.{columnNode, nodesText, wholeText}
+use Rattle.printer.specs.Answers.{refusalOf, roomRefusal, listed, listedOutput, Puts, Lists}
+use Rattle.printer.specs.Places.{Placed, most}
+use Rattle.printer.proofs.Trees.{tree-text}
+use Rattle.printer.proofs.Passed.{passed}
+
+-- ---- the text
+
+-- the listing of the script of some tables
+listing-is :
+    (t i n : ℕ) (x : Tables) → 1 ≤ n →
+    listing (tablesScript t i n x) ≡ wholeText i n (x .kinds) (x .a) (x .b) (x .c) (x .values)
+unfolding listing inputCount root nodeCount nodeAt tablesScript rowNode columnNode ascii
+listing-is t i n x h =
+    let s : Script = tablesScript t i n x in
+    let nodes : ℕ → Node = columnNode (x .kinds) (x .a) (x .b) (x .c) (x .values) in
+    let l : length (numbered (rowNode x) 0 n) ≡ n = numbered-length (rowNode x) 0 n in
+    ap (λ (l : List ℕ). l ++ (10 ∷ []))
+    (tree-text (inputCount s) s nodes (λ j k. numbered-at (rowNode x) blankNode n j (omega arith)) (root s) (omega arith)
+    ∙ ap₂ (λ m j. nodesText m nodes j) (numbered-length (rowInput x) 0 i) (omega arith))
+
+-- refusal 3: "1 to 4,096 nodes"
+listing-text :
+    (t i n : ℕ) (x : Tables) → tablesRefusal t i n x ≡ none →
+    listing (tablesScript t i n x) ≡ wholeText i n (x .kinds) (x .a) (x .b) (x .c) (x .values)
+unfolding tablesRefusal tablesScript nodeCount
+listing-text t i n x e =
+    listing-is t i n x
+    (omega (arith, passed (tablesScript t i n x) (neither _ _ e .1) .some-nodes, numbered-length (rowNode x) 0 n))
+
+-- ---- the answer
+
+-- what a walk that is lent no room gives back is nothing
+untouched : (y x : List ℕ) → length y ≡ 0 → y ++ x ≡ x
+untouched [] x h = refl
+untouched (b ∷ y) x h = absurd (omega arith)
+
+-- Whether the walk's count is at most the output's length decides both.
+module _ {text x y : List ℕ} {k : ℕ} (short : length x < most) (same : y ≡ x) (counted : k ≡ min (0 + length text) most) where
+  puts-whole : {z : List ℕ} {e : ℕ} → k ≤ length y → Placed text 0 y z e → Puts text x z (Listed k)
+  unfolding roomRefusal refusedUnless listed listedOutput refusalOf
+  puts-whole h p =
+      let c : k ≡ length text = omega (arith, ap length same) in
+      let l : leb (length text) (length x) ≡ true = le-leb (length text) (length x) (omega (arith, ap length same)) in
+      record {
+        told = rw l;
+        reply = rw (l, c);
+        output = rw l (p .stands (omega (arith, ap length same)) (omega (arith, ap length same)) ∙ ap (over text) same);
+      }
+
+  puts-nothing : length y < k → Puts text x y TooShort
+  unfolding roomRefusal refusedUnless listed listedOutput refusalOf
+  puts-nothing h =
+      let l : leb (length text) (length x) ≡ false = lt-leb (length text) (length x) (omega (arith, ap length same)) in
+      record { told = rw l; reply = rw l; output = rw l same }
+
+-- ---- the entry: x is the output before, y what the first walk gives back of the part of length 0 that it is lent
+
+module _ {n : Counts} {kinds a b c : List ℕ} {values : List ℤ} {x y w : List ℕ} {k : ℕ} (short : length x < most) (nothing : length y ≡ 0) (first : Placed (wholeText (n .inputs) (n .nodes) kinds a b c values) 0 w y k) where
+  pub lists-whole :
+      {z : List ℕ} {e : ℕ} → k ≤ length (y ++ x) →
+      Placed (wholeText (n .inputs) (n .nodes) kinds a b c values) 0 (y ++ x) z e →
+      Lists n kinds a b c values x z (Listed k)
+  lists-whole h p = record {
+    lists = λ ps rs is e.
+        rw (listing-text _ _ _ _ e) (puts-whole short (untouched y x nothing) (first .counted) h p);
+  }
+
+  pub lists-nothing : length (y ++ x) < k → Lists n kinds a b c values x (y ++ x) TooShort
+  lists-nothing h = record {
+    lists = λ ps rs is e.
+        rw (listing-text _ _ _ _ e) (puts-nothing short (untouched y x nothing) (first .counted) h);
+  }

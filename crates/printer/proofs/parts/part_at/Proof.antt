@@ -1,0 +1,21 @@
+-- `printer::parts::part_at` meets its contract. Assumes nothing.
+use borrow.Author.Needs.{needs}
+use Rattle.printer.proofs.Writing.{placed}
+use Rattle.printer.proofs.parts.part_at.Statement.{statement}
+use Rattle.printer.proofs.parts.part_at.Tie as tie
+
+returns : tie.Need-returns
+returns c = placed (c .before .before .before .before .before .least .ensures) (c .before .before .before .put-part .ensures) (c .further .ensures)
+
+pub part-at-spec : {M : Type 1} → statement M
+part-at-spec =
+    tie.close
+    (tie.spec
+    (λ c κs. search needs)
+    (λ c. search needs)
+    (λ c. search needs)
+    (λ c. search needs)
+    (λ c κs. search needs)
+    (λ c κs. search needs)
+    (λ c. search needs)
+    returns)

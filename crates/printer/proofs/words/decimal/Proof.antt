@@ -1,0 +1,16 @@
+-- `printer::words::decimal` meets its contract. Assumes nothing.
+use Rattle.lambdamix.proofs.Signed.{widens}
+use Rattle.printer.proofs.Signs.{negation-stays, signed, unsigned}
+use Rattle.printer.proofs.words.decimal.Statement.{statement}
+use Rattle.printer.proofs.words.decimal.Tie as tie
+
+pub decimal-spec : {M : Type 1} → statement M
+decimal-spec =
+    tie.close
+    (tie.spec
+    (λ c. widens (c .before .fits .z))
+    (λ c. negation-stays (c .before .fits .z))
+    (λ c. signed (c .before .fits .z) (c .if1 .taken) .0)
+    (λ c. signed (c .before .fits .z) (c .if1 .taken) .1)
+    (λ c. unsigned (c .before .fits .z) (c .if1 .left) .0)
+    (λ c. unsigned (c .before .fits .z) (c .if1 .left) .1))

@@ -1,0 +1,109 @@
+-- The end of a run that gave code: its file is put part behind part, and the reply and the output are those of paper 01, "26, 21".
+-- Assumes nothing.
+use Prim.Native.Nat.{ℕ, _+_, _*_, _-_, _≤_, _<_}
+use mathlib.Core.Path.{_≡_, refl, sym, ap, _∙_, subst}
+use mathlib.Core.Bool.{true, false}
+use mathlib.Core.List.{List, [], _++_}
+use mathlib.Core.Option.{none, some}
+use native.Mathlib.Omega.{arith}
+use lib.ListN.{length}
+use lib.Dec.{leb}
+use borrow.Author.Tests.{leb-true, le-leb, lt-leb}
+use Rattle.lambdamix.specs.Limits.{maxNodes, maxHeight}
+use Rattle.lambdamix.specs.Text.{ascii}
+use Rattle.lambdamix.specs.Script.{Script, nodeCount}
+use Rattle.lambdamix.specs.Code.{Code, size, codeHeight, fits, top, nodesFrom, written}
+use Rattle.lambdamix.specs.Specializing.{finished}
+use Rattle.lambdamix.proofs.Tests.{and-both}
+use Rattle.lambdamix.proofs.WrittenTree.{top-last, written-size}
+use Rattle.script.specs.Bytes.{bytes16}
+use Rattle.script.specs.File.{headBytes, inputBytes, nodeBytes, records, numbered, fileBytes, fileLength, nodeOffset}
+use Rattle.script.specs.Written.{Put, headRow}
+use Rattle.script.proofs.RecordLaws.{numbered-length, records-length}
+use Rattle.script.proofs.Layouts.{inputLayout}
+use Rattle.script.proofs.FileLaws.{file-length}
+use Rattle.script.proofs.WritingLaws.{put-both, put-same, put-over}
+use Rattle.specializer.specs.declared.Finish.the-variants as Finish
+use Rattle.specializer.specs.Cells.{spend}
+use Rattle.specializer.specs.Making.{writtenBy, afterRun}
+use Rattle.specializer.specs.Answers.{replyOf, outcome}
+use Rattle.specializer.proofs.Spending.{Spent, left, spent, spend-fits, spend-size}
+
+-- ---- counts
+
+nodes-count : (c : Code) → length (nodesFrom 0 c) ≡ size c
+unfolding nodeCount written
+nodes-count c = written-size (record { types = []; inputs = []; nodes = [] }) c
+
+-- the last node's number is below the count of nodes
+pub top-low : {n : ℕ} (c : Code) → n ≡ size c → n ≤ 4096 → top 0 c < 4096
+top-low c e h = omega (arith, top-last c 0, nodes-count c)
+
+pub fits-small : {n : ℕ} (c : Code) → n ≡ size c → fits c ≡ true → n ≤ 4096
+unfolding fits maxNodes
+fits-small c e h =
+    omega (arith, leb-true (size c) 4096 (and-both (leb (size c) 4096) (leb (codeHeight c) maxHeight) h .0))
+
+-- where something is left of the nodes, it and the code's nodes are all
+pub left-of : {r : ℕ} (c : Code) → spend c 4096 256 ≡ some r → size c + r ≡ 4096
+left-of {r} c e = go (subst (Spent (size c) (codeHeight c) 4096 256) e (spent c 4096 256))
+  where
+    go : Spent (size c) (codeHeight c) 4096 256 (some r) → size c + r ≡ 4096
+    go (left q l) = q
+
+pub left-fits : {r : ℕ} (c : Code) → spend c 4096 256 ≡ some r → (4096 - r ≡ size c) × (fits c ≡ true)
+unfolding maxNodes maxHeight
+left-fits {r} c e = (omega (arith, left-of c e), spend-size c r e .0)
+
+pub over-unfit : (c : Code) → spend c 4096 256 ≡ none → fits c ≡ false
+unfolding maxNodes maxHeight
+over-unfit c e = spend-fits c e
+
+-- ---- the file
+
+module _ (s : Script) (g : ℕ → ℕ) (count : ℕ) (i : s .inputs ≡ numbered g 0 count) (c : Code) {n : ℕ} (e : n ≡ size c) where
+  inputs-count : length (s .inputs) ≡ count
+  inputs-count = ap length i ∙ numbered-length g 0 count
+
+  pub file-size : length (fileBytes (written s c)) ≡ 8 + 4 * count + 13 * n
+  unfolding written fileLength nodeOffset
+  file-size = file-length (written s c) ∙ omega (arith, inputs-count, nodes-count c)
+
+  the-head : headRow 0 count n ≡ headBytes (written s c)
+  unfolding headRow headBytes written
+  the-head =
+      λ y. ascii "HD" ++ (bytes16 0 ++ (bytes16 (sym inputs-count y) ++ bytes16 ((e ∙ sym (nodes-count c)) y)))
+
+  -- head, inputs and nodes, each put behind the other, are the file
+  pub put-written :
+      {l j k m : List ℕ} → Put l 0 (headRow 0 count n) j → Put j (8 + 6 * 0) (records inputBytes (numbered g 0 count)) k →
+      Put k (8 + 4 * count + 13 * 0) (records nodeBytes (nodesFrom 0 c)) m → Put l 0 (fileBytes (written s c)) m
+  unfolding fileBytes written headBytes records ascii bytes16
+  put-written p q r =
+      put-both (put-same the-head p) refl
+      (put-both (put-same (ap (records inputBytes) (sym i)) q) (omega (arith, records-length inputLayout (s .inputs), inputs-count)) r)
+
+  -- ---- the replies
+
+  module _ (k : ℕ) (f : fits c ≡ true) {before : List ℕ} where
+    pub finish-written :
+        {after : List ℕ} → 8 + 4 * count + 13 * n ≤ length before → Put before 0 (fileBytes (written s c)) after →
+        outcome (Finish.Written n) k after ≡ afterRun s (finished c k) before
+    unfolding replyOf afterRun writtenBy
+    finish-written h p =
+        let l : length (fileBytes (written s c)) ≤ length before = omega (arith, file-size) in
+        rw (f, le-leb (length (fileBytes (written s c))) (length before) l, e, put-over p l)
+
+    pub finish-short :
+        length before < 8 + 4 * count + 13 * n →
+        outcome (Finish.Refused (record { number = 21; place = 0 })) k before ≡ afterRun s (finished c k) before
+    unfolding replyOf afterRun writtenBy
+    finish-short h =
+        let l : length before < length (fileBytes (written s c)) = omega (arith, file-size) in
+        rw (f, lt-leb (length (fileBytes (written s c))) (length before) l)
+
+pub finish-unfit :
+    (s : Script) (c : Code) (k : ℕ) {before : List ℕ} → fits c ≡ false →
+    outcome (Finish.Refused (record { number = 26; place = 0 })) k before ≡ afterRun s (finished c k) before
+unfolding replyOf afterRun writtenBy
+finish-unfit s c k f = rw f
