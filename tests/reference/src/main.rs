@@ -30,6 +30,7 @@ const USAGE: &str = "commands:
   check DIR
   pack FILE SEED COUNT
   pack-scripts FILE SEED COUNT
+  pack-damaged FILE SEED COUNT
   packed read|check|benchmake FILE
   differ PROGRAM SEED COUNT [FILE]
 ";
@@ -72,6 +73,13 @@ fn run(words: &[&str]) -> Result<bool, String> {
             let whole = k % 4 == 0;
             Ok(if whole { input } else { benchmake::split(&input).0.to_vec() })
         }),
+        ["pack-damaged", file, seed, count] => {
+            let seed = number(seed)?;
+            let scripts = (0..).map(|k| benchmake::split(&generate::input(seed, k)).0.to_vec());
+            let mut damaged = scripts.filter(|bytes| script::read(bytes).is_err());
+            let damaged: Vec<_> = damaged.by_ref().take(number(count)? as usize).collect();
+            pack(file, damaged.len() as u64, |k| Ok(damaged[k as usize].clone()))
+        }
         ["packed", "read", file] => tell_packed(file, |input| place(script::read(input)) + "\n"),
         ["packed", "check", file] => tell_packed(file, |input| {
             place(script::read(input).and_then(|script| checker::check(&script))) + "\n"
