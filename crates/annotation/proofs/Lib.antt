@@ -5,3 +5,5 @@ pub mod ByFields
 pub mod Contexts
 pub mod Steps
 pub mod Recursion
+pub mod Joining
+pub mod Acceptance

@@ -1,0 +1,29 @@
+// The checker: refusals 1 to 8 as the file of the tables, then 9 to 11.
+use crate::typing::annotation_refusal;
+use script::Counts;
+use script::Verdict;
+use script::tables::tables_refusal;
+ghost use mathlib.Core.Path.{_≡_};
+ghost use Rattle.script.specs.Replies.{refusalOf};
+ghost use Rattle.annotation.specs.Answers.{tablesOf};
+ghost use Rattle.annotation.specs.Checks.{checkRefusal};
+
+// Every call is answered, and no lent table is touched.
+pub fn check(
+    n: Counts,
+    parameters: &[u16],
+    results: &[u16],
+    inputs: &[u16],
+    kinds: &[u8],
+    a: &[u16],
+    b: &[u16],
+    c: &[u16],
+    values: &[i32],
+) -> Verdict
+    ensures { λ r. ⌜ refusalOf r ≡ checkRefusal (n .types) (n .inputs) (n .nodes) (tablesOf (now (parameters .entry)) (now (results .entry)) (now (inputs .entry)) (now (kinds .entry)) (now (a .entry)) (now (b .entry)) (now (c .entry)) (now (values .entry))) ⌝ }
+{
+    match tables_refusal(n, parameters, results, inputs, kinds, a, b, c, values) {
+        Verdict::Refused(f) => Verdict::Refused(f),
+        Verdict::Passed => annotation_refusal(n, parameters, results, inputs, kinds, a, b, c),
+    }
+}
