@@ -1,0 +1,84 @@
+-- What `benchmake` prints for any standard input: paper 01, "Listing and program". "Program `benchmake` reads standard input: a
+-- script file, then a record `SV` plus a 4-byte signed value per setting. Bytes after the script that aren't whole `SV` records
+-- give 12." Assumes nothing.
+use Prim.Native.Nat.{ℕ, zero, suc, _+_, _*_, _/_, _%_}
+use mathlib.Core.Bool.{Bool, true, false, _&&_}
+use mathlib.Core.List.{List, [], _∷_, _++_}
+use mathlib.Core.Option.{Option, none, some}
+use lib.IntN.{ℤ}
+use lib.ListN.{length, take, drop}
+use lib.Dec.{leb, ltb, eqb}
+use Rattle.lambdamix.specs.Script.{Script}
+use Rattle.lambdamix.specs.Checker.{Refusal, annotationRefusal}
+use Rattle.lambdamix.specs.Structure.{firstFailing}
+use Rattle.lambdamix.specs.Code.{size, written}
+use Rattle.lambdamix.specs.Specializing.{Reply, made, unmade, unlessRefused, make}
+use Rattle.lambdamix.specs.Text.{ascii, digits}
+use Rattle.lambdamix.specs.Listing.{listing}
+use Rattle.script.specs.Bytes.{word32, signed32}
+use Rattle.script.specs.File.{headTypes, headInputs, headNodes, fileLength, numbered, scriptIn}
+use Rattle.script.specs.Refusals.{countsRight, marked, headMarked, isNone, fileRefusal}
+
+-- "its fuel is 4,000"
+unfoldable pub programFuel : ℕ
+programFuel = 4000
+
+unfoldable pub headRight : List ℕ → Bool
+headRight bs = leb 8 (length bs) && (headMarked bs 0 && countsRight (headTypes bs) (headInputs bs) (headNodes bs))
+
+unfoldable pub scriptLengthBy : Bool → List ℕ → ℕ
+scriptLengthBy true bs = fileLength (headTypes bs) (headInputs bs) (headNodes bs)
+scriptLengthBy false bs = length bs
+
+-- the script is as long as its head says; without a right head the whole input is the script
+unfoldable pub scriptLength : List ℕ → ℕ
+scriptLength bs = scriptLengthBy (headRight bs) bs
+
+unfoldable pub scriptPart : List ℕ → List ℕ
+scriptPart bs = take (scriptLength bs) bs
+
+unfoldable pub settingsPart : List ℕ → List ℕ
+settingsPart bs = drop (scriptLength bs) bs
+
+-- `SV`
+unfoldable pub settingMarked : List ℕ → ℕ → Bool
+settingMarked bs j = marked 83 86 bs (6 * j)
+
+-- nothing but whole `SV` records
+unfoldable pub wholeSettings : List ℕ → Bool
+wholeSettings bs = eqb (length bs % 6) 0 && isNone (firstFailing (settingMarked bs) 0 (length bs / 6))
+
+unfoldable pub settingAt : List ℕ → ℕ → ℤ
+settingAt bs j = signed32 (word32 bs (6 * j + 2))
+
+unfoldable pub settings : List ℕ → List ℤ
+settings bs = numbered (settingAt bs) 0 (length bs / 6)
+
+-- the making with what follows the script; what isn't whole records is 12, in 12's place
+unfoldable pub settingsReply : Bool → Script → List ℕ → Reply
+settingsReply true s bs = make s (settings bs) programFuel
+settingsReply false s bs = unlessRefused (annotationRefusal s) (unmade 12 0 0)
+
+unfoldable pub inputReply : Option Refusal → Script → List ℕ → Reply
+inputReply none s bs = settingsReply (wholeSettings bs) s bs
+inputReply (some f) s bs = unmade (f .number) (f .place) 0
+
+-- the reply to an input
+unfoldable pub replyTo : List ℕ → Reply
+replyTo bs = inputReply (fileRefusal (scriptPart bs)) (scriptIn (scriptPart bs)) (settingsPart bs)
+
+-- "`refused 9 4` (number, place) alone, or `accepted` and `stopped 24 2`, each on its own line; 21 and 26 print as stops"
+unfoldable pub unmadeText : Bool → ℕ → ℕ → List ℕ
+unmadeText true n p = ascii "refused " ++ (digits n ++ (ascii " " ++ (digits p ++ ascii "\n")))
+unmadeText false n p = ascii "accepted\nstopped " ++ (digits n ++ (ascii " " ++ (digits p ++ ascii "\n")))
+
+-- "Nodes counts the written tree."
+unfoldable pub replyText : Script → Reply → List ℕ
+replyText s (made c k) =
+    ascii "accepted\nsteps "
+    ++ (digits k ++ (ascii "\nnodes " ++ (digits (size c) ++ (ascii "\n" ++ listing (written s c)))))
+replyText s (unmade n p k) = unmadeText (ltb n 20) n p
+
+-- every byte that the program prints for an input
+unfoldable pub response : List ℕ → List ℕ
+response bs = replyText (scriptIn (scriptPart bs)) (replyTo bs)
