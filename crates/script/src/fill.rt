@@ -14,7 +14,7 @@ ghost use Rattle.script.specs.Tables.{over};
 ghost use Rattle.script.specs.Columns.{Spaced};
 
 // Where record j stands.
-pub fn place(first: usize, stride: usize, j: usize) -> usize
+pub(crate) fn place(first: usize, stride: usize, j: usize) -> usize
     requires { ⌜ Spaced first stride j ⌝ }
     ensures { λ r. ⌜ r ≡ first + stride * j ⌝ }
 {
@@ -29,7 +29,14 @@ fn field_place(first: usize, stride: usize, j: usize, field: u8) -> usize
     first + stride * j + (field as usize)
 }
 
-pub fn fill8(file: &[u8], first: usize, stride: usize, field: u8, count: usize, column: &mut [u8])
+pub(crate) fn fill8(
+    file: &[u8],
+    first: usize,
+    stride: usize,
+    field: u8,
+    count: usize,
+    column: &mut [u8],
+)
     requires { ⌜ Spaced first stride count ⌝ }
     requires { ⌜ count ≤ length (now column) ⌝ }
     ensures { λ r. ⌜ now (column .exit) ≡ over (numbered (λ j. byteAt (now (file .entry)) (first + stride * j + field)) 0 count) (now (column .entry)) ⌝ }
@@ -42,7 +49,14 @@ pub fn fill8(file: &[u8], first: usize, stride: usize, field: u8, count: usize, 
     }
 }
 
-pub fn fill16(file: &[u8], first: usize, stride: usize, field: u8, count: usize, column: &mut [u16])
+pub(crate) fn fill16(
+    file: &[u8],
+    first: usize,
+    stride: usize,
+    field: u8,
+    count: usize,
+    column: &mut [u16],
+)
     requires { ⌜ Spaced first stride count ⌝ }
     requires { ⌜ count ≤ length (now column) ⌝ }
     ensures { λ r. ⌜ now (column .exit) ≡ over (numbered (λ j. word16 (now (file .entry)) (first + stride * j + field)) 0 count) (now (column .entry)) ⌝ }
@@ -55,7 +69,14 @@ pub fn fill16(file: &[u8], first: usize, stride: usize, field: u8, count: usize,
     }
 }
 
-pub fn fill32(file: &[u8], first: usize, stride: usize, field: u8, count: usize, column: &mut [i32])
+pub(crate) fn fill32(
+    file: &[u8],
+    first: usize,
+    stride: usize,
+    field: u8,
+    count: usize,
+    column: &mut [i32],
+)
     requires { ⌜ Spaced first stride count ⌝ }
     requires { ⌜ count ≤ length (now column) ⌝ }
     ensures { λ r. ⌜ now (column .exit) ≡ over (numbered (λ j. signed32 (word32 (now (file .entry)) (first + stride * j + field))) 0 count) (now (column .entry)) ⌝ }

@@ -16,7 +16,7 @@ ghost use Rattle.script.specs.Replies.{foundAt, refusalOf};
 ghost use Rattle.script.specs.Columns.{Spaced};
 
 // Whether the two letters stand at a place.
-pub fn marked(file: &[u8], at: usize, x: u8, y: u8) -> bool
+pub(crate) fn marked(file: &[u8], at: usize, x: u8, y: u8) -> bool
     requires { ⌜ 0 < x ⌝ }
     ensures { λ r. ⌜ r ≡ marked x y (now (file .entry)) at ⌝ }
 {
@@ -45,7 +45,7 @@ fn first_unmarked(file: &[u8], first: usize, stride: usize, count: usize, x: u8,
     Found::Nowhere
 }
 
-pub fn mark_refusal(file: &[u8], types: usize, inputs: usize, nodes: usize) -> Verdict
+pub(crate) fn mark_refusal(file: &[u8], types: usize, inputs: usize, nodes: usize) -> Verdict
     requires { ⌜ countsRight types inputs nodes ≡ true ⌝ }
     ensures { λ r. ⌜ refusalOf r ≡ markRefusal (now (file .entry)) types inputs nodes ⌝ }
 {

@@ -10,21 +10,21 @@ ghost use Rattle.script.specs.Refusals.{refusedRecord};
 ghost use Rattle.script.specs.Replies.{foundAt, refusalOf};
 ghost use Rattle.script.specs.Columns.{FoundBelow};
 
-pub fn type_offset(j: usize) -> usize
+pub(crate) fn type_offset(j: usize) -> usize
     requires { ⌜ j < 65536 ⌝ }
     ensures { λ r. ⌜ r ≡ typeOffset j ⌝ }
 {
     8 + 6 * j
 }
 
-pub fn input_offset(types: usize, j: usize) -> usize
+pub(crate) fn input_offset(types: usize, j: usize) -> usize
     requires { ⌜ (types < 65536) × (j < 65536) ⌝ }
     ensures { λ r. ⌜ r ≡ inputOffset types j ⌝ }
 {
     8 + 6 * types + 4 * j
 }
 
-pub fn node_offset(types: usize, inputs: usize, j: usize) -> usize
+pub(crate) fn node_offset(types: usize, inputs: usize, j: usize) -> usize
     requires { ⌜ (types < 65536) × ((inputs < 65536) × (j < 65536)) ⌝ }
     ensures { λ r. ⌜ r ≡ nodeOffset types inputs j ⌝ }
 {
@@ -32,7 +32,7 @@ pub fn node_offset(types: usize, inputs: usize, j: usize) -> usize
 }
 
 // The first bad record of three searches: types and inputs are refused by one number, nodes by another.
-pub fn record_refusal(
+pub(crate) fn record_refusal(
     types: usize,
     inputs: usize,
     number: u8,
