@@ -1,14 +1,5 @@
-pub mod Words
-pub mod Stands
-pub mod Nodes
-pub mod Same
-pub mod Simulation
 pub mod Inputs
 pub mod Root
-pub mod SignedBits
-pub mod Lookup
-pub mod Sorts
-pub mod Members
 pub mod Spending
 pub mod Zeros
 pub mod Binding

@@ -1,5 +1,3 @@
-pub mod Machine
-pub mod Stores
 pub mod Start
 pub mod Cells
 pub mod Making

@@ -1,7 +1,7 @@
 // A code cell: its kind, its constant, and its fields as the written node has them, by the table of uses.
 use crate::Field;
-use crate::cell;
 use lambdamix::Use;
+use machine::cell;
 use script::kinds;
 ghost use mathlib.Core.Path.{_≡_};
 ghost use Prim.Native.Nat.{_%_};

@@ -2,8 +2,8 @@
 // nodes or height give out, the count ends.
 use crate::Field;
 use crate::Room;
-use crate::cell;
 use crate::code;
+use machine::cell;
 ghost use Prim.Native.Nat.{_-_};
 ghost use mathlib.Core.Path.{_≡_};
 ghost use lib.Dec.{eqb};

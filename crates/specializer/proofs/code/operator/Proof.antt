@@ -1,6 +1,6 @@
 -- `specializer::code::operator` meets its contract: an operator's number stands for it, and any other counts as 0. Assumes nothing.
 use Rattle.specializer.specs.Fields.{writtenOperator}
-use Rattle.specializer.proofs.Nodes.{operator-number}
+use Rattle.machine.proofs.Nodes.{operator-number}
 use Rattle.specializer.proofs.FieldLaws.{past-operators}
 use Rattle.specializer.proofs.code.operator.Statement.{statement}
 use Rattle.specializer.proofs.code.operator.Tie as tie

@@ -20,7 +20,7 @@ use Rattle.specializer.proofs.emit.+emit+emit_field+emit_piece.Lts-emit
 use Rattle.specializer.proofs.emit.emit_piece.Reads as emit-piece
 use Rattle.specializer.proofs.emit.emit_piece.Kinds as emit-piece-kinds
 use Rattle.specializer.proofs.emit.+emit+emit_field+emit_piece.Lts-emit_piece as emit-piece-lts
-use Rattle.specializer.proofs.cell.word_at.Reads as word-at-reads
+use Rattle.machine.proofs.cell.word_at.Reads as word-at-reads
 use Rattle.specializer.proofs.code.constant.Reads as constant-reads
 use Rattle.specializer.proofs.code.field_at.Reads as field-at-reads
 use Rattle.specializer.proofs.code.kind.Reads as kind-reads

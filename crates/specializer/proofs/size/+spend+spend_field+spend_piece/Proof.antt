@@ -18,7 +18,7 @@ use Rattle.specializer.proofs.size.+spend+spend_field+spend_piece.Lts-s
 use Rattle.specializer.proofs.size.spend_piece.Reads as spend-piece
 use Rattle.specializer.proofs.size.spend_piece.Kinds as spend-piece-kinds
 use Rattle.specializer.proofs.size.+spend+spend_field+spend_piece.Lts-spend_piece as spend-piece-lts
-use Rattle.specializer.proofs.cell.word_at.Reads as word-at-reads
+use Rattle.machine.proofs.cell.word_at.Reads as word-at-reads
 use Rattle.specializer.proofs.code.field_at.Reads as field-at-reads
 use Rattle.specializer.proofs.code.kind.Reads as kind-reads
 use Rattle.specializer.proofs.size.lower.Reads as lower-reads

@@ -1,0 +1,9 @@
+pub mod Words
+pub mod Stands
+pub mod Nodes
+pub mod Same
+pub mod Simulation
+pub mod SignedBits
+pub mod Lookup
+pub mod Sorts
+pub mod Members
