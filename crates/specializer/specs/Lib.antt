@@ -3,3 +3,4 @@ pub mod Cells
 pub mod Making
 pub mod Fields
 pub mod Answers
+pub mod Entry
