@@ -9,3 +9,4 @@ pub mod Emission
 pub mod Finishing
 pub mod Refusing
 pub mod Numbers
+pub mod Making

@@ -4,6 +4,7 @@ pub mod clear;
 pub mod code;
 pub mod emit;
 pub mod limits;
+pub mod make;
 pub mod run;
 pub mod size;
 pub mod start;
