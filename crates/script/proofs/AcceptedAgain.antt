@@ -40,42 +40,27 @@ inputs-few t i n e =
     and-both (leb i maxInputs) (leb 1 n && leb n maxNodes)
     (and-both (leb t maxTypes) (leb i maxInputs && (leb 1 n && leb n maxNodes)) e .1) .0
 
--- what the refusals of an accepted file that are none say of its script
-module _ (bs : List ℕ) (bytes : AllBytes bs) (h : AcceptedFile bs) where
-  script-passes : scriptRefusal (scriptIn bs) ≡ none
-  script-passes = sym (file-refusal (scriptIn bs) (read-fits bs bytes)) ∙ subst⁻¹ (λ b. fileRefusal b ≡ none) (written-read bs bytes (h .read)) (h .read)
-
+-- what refusals 3 to 11 that are none say of a script
+module _ (s : Script) (passes-all : scriptRefusal s ≡ none) (annotated : annotationRefusal s ≡ none) where
   parts-pass :
-      (countsRight (length (scriptIn bs .types)) (length (scriptIn bs .inputs)) (length (scriptIn bs .nodes)) ≡ true)
-      × (contentRefusal (scriptIn bs) ≡ none)
-      × (structureRefusal (scriptIn bs) ≡ none)
+      (countsRight (length (s .types)) (length (s .inputs)) (length (s .nodes)) ≡ true)
+      × (contentRefusal s ≡ none)
+      × (structureRefusal s ≡ none)
   unfolding scriptRefusal
   parts-pass =
-      let (counts, rest) = neither _ _ script-passes in
+      let (counts, rest) = neither _ _ passes-all in
       let (content, structure) = neither _ _ rest in
       (not-refused _ 3 0 counts, content, structure)
 
-  pub accepted : Accepted (scriptIn bs)
-  accepted = record { structured = parts-pass .2; annotated = h .annotated }
+  pub script-accepted : Accepted s
+  script-accepted = record { structured = parts-pass .2; annotated = annotated }
 
-  few-inputs : leb (length (scriptIn bs .inputs)) maxInputs ≡ true
+  few-inputs : leb (length (s .inputs)) maxInputs ≡ true
   few-inputs = inputs-few _ _ _ (parts-pass .0)
 
-  inputs-right : firstFailing (inputFits (λ j. getD (scriptIn bs .inputs) j 0)) 0 (length (scriptIn bs .inputs)) ≡ none
+  inputs-right : firstFailing (inputFits (λ j. getD (s .inputs) j 0)) 0 (length (s .inputs)) ≡ none
   unfolding contentRefusal contentOf
   inputs-right = no-record 4 _ _ (neither _ _ (neither _ _ (parts-pass .1) .1) .0)
-
-  values-fit : (i : ℕ) → Fits (nodeAt (scriptIn bs) i .value)
-  unfolding nodeAt
-  values-fit i = ⊎-elim inside outside (holds-or-fails (ltb i (length (scriptIn bs .nodes))))
-    where
-      inside : ltb i (length (scriptIn bs .nodes)) ≡ true → Fits (nodeAt (scriptIn bs) i .value)
-      inside e = record { within = read-fits bs bytes .nodes i (ltb-true _ _ e) .value }
-
-      outside : ltb i (length (scriptIn bs .nodes)) ≡ false → Fits (nodeAt (scriptIn bs) i .value)
-      outside e =
-          subst⁻¹ (λ (d : Node). Fits (d .value)) (List·getD-eq-default (scriptIn bs .nodes) blankNode (ltb-false _ _ e))
-          (record { within = omega arith })
 
 -- a written script that passes 3 to 11 and fits the widths of a file passes 1 to 11 through its bytes
 through-bytes :
@@ -120,22 +105,49 @@ module _
         (written-counts s few right scoped names constants fitting)
         ∙ rw (written-content s few right scoped names constants fitting, r)
 
+-- The file of the code that making a script leaves passes ALL of refusals 1 to 11, for a script past 3 to 11, numbers of 32 bits
+-- and fuel within its limit.
+pub script-accepted-again :
+    (s : Script) → scriptRefusal s ≡ none → annotationRefusal s ≡ none → ((i : ℕ) → Fits (nodeAt s i .value)) → (zs : List ℤ) →
+    ((i : ℕ) → Fits (getD zs i (pos 0))) → (fuel : ℕ) → fuel ≤ maxFuel → (c : Code) (k : ℕ) →
+    specialized s zs fuel ≡ finished c k → fits c ≡ true → AcceptedFile (fileBytes (written s c))
+unfolding inputCount
+script-accepted-again s p a values zs settings fuel limit c k e f =
+    let (l, y, q) = finished-run s zs fuel e in
+    let scoped = finished-code-scoped s (checker-accepts s .0 a) zs fuel q in
+    let few = few-inputs s p a in
+    let right = inputs-right s p a in
+    let inputs : inputCount s ≤ maxInputs = leb-true (length (s .inputs)) maxInputs few in
+    let names : y ≤ 65536 = le-of-lt (names-fit s zs fuel inputs limit q) in
+    let constants = code-in-range s zs fuel values settings q in
+    let again = demand-three s (script-accepted s p a) zs fuel .accepted-again c k e f in
+    through-bytes (written s c) (written-fits s few right scoped names constants f)
+    (written-passes s few right scoped names constants f (again .structured)) (again .annotated)
+
+module _ (bs : List ℕ) (bytes : AllBytes bs) (h : AcceptedFile bs) where
+  script-passes : scriptRefusal (scriptIn bs) ≡ none
+  script-passes = sym (file-refusal (scriptIn bs) (read-fits bs bytes)) ∙ subst⁻¹ (λ b. fileRefusal b ≡ none) (written-read bs bytes (h .read)) (h .read)
+
+  pub accepted : Accepted (scriptIn bs)
+  accepted = script-accepted (scriptIn bs) script-passes (h .annotated)
+
+  values-fit : (i : ℕ) → Fits (nodeAt (scriptIn bs) i .value)
+  unfolding nodeAt
+  values-fit i = ⊎-elim inside outside (holds-or-fails (ltb i (length (scriptIn bs .nodes))))
+    where
+      inside : ltb i (length (scriptIn bs .nodes)) ≡ true → Fits (nodeAt (scriptIn bs) i .value)
+      inside e = record { within = read-fits bs bytes .nodes i (ltb-true _ _ e) .value }
+
+      outside : ltb i (length (scriptIn bs .nodes)) ≡ false → Fits (nodeAt (scriptIn bs) i .value)
+      outside e =
+          subst⁻¹ (λ (d : Node). Fits (d .value)) (List·getD-eq-default (scriptIn bs .nodes) blankNode (ltb-false _ _ e))
+          (record { within = omega arith })
+
 -- Demand 3, last part: "wherever it fits a file, the checker accepts that file again". The file of the code that making an
 -- accepted file leaves passes ALL of refusals 1 to 11, for settings of 32 bits and fuel within its limit.
 pub accepted-again :
     (bs : List ℕ) → AllBytes bs → AcceptedFile bs → (zs : List ℤ) → ((i : ℕ) → Fits (getD zs i (pos 0))) → (fuel : ℕ) →
     fuel ≤ maxFuel → (c : Code) (k : ℕ) → specialized (scriptIn bs) zs fuel ≡ finished c k → fits c ≡ true →
     AcceptedFile (fileBytes (written (scriptIn bs) c))
-unfolding inputCount
 accepted-again bs bytes h zs settings fuel limit c k e f =
-    let s : Script = scriptIn bs in
-    let (l, y, q) = finished-run s zs fuel e in
-    let scoped = finished-code-scoped s (checker-accepts s .0 (h .annotated)) zs fuel q in
-    let inputs : inputCount s ≤ maxInputs = leb-true (length (scriptIn bs .inputs)) maxInputs (few-inputs bs bytes h) in
-    let names : y ≤ 65536 = le-of-lt (names-fit s zs fuel inputs limit q) in
-    let constants = code-in-range s zs fuel (values-fit bs bytes h) settings q in
-    let again = demand-three s (accepted bs bytes h) zs fuel .accepted-again c k e f in
-    let few = few-inputs bs bytes h in
-    let right = inputs-right bs bytes h in
-    through-bytes (written s c) (written-fits s few right scoped names constants f)
-    (written-passes s few right scoped names constants f (again .structured)) (again .annotated)
+    script-accepted-again (scriptIn bs) (script-passes bs bytes h) (h .annotated) (values-fit bs bytes h) zs settings fuel limit c k e f
