@@ -105,24 +105,41 @@ module _
         (written-counts s few right scoped names constants fitting)
         ∙ rw (written-content s few right scoped names constants fitting, r)
 
--- The file of the code that making a script leaves passes ALL of refusals 1 to 11, for a script past 3 to 11, numbers of 32 bits
--- and fuel within its limit.
-pub script-accepted-again :
-    (s : Script) → scriptRefusal s ≡ none → annotationRefusal s ≡ none → ((i : ℕ) → Fits (nodeAt s i .value)) → (zs : List ℤ) →
-    ((i : ℕ) → Fits (getD zs i (pos 0))) → (fuel : ℕ) → fuel ≤ maxFuel → (c : Code) (k : ℕ) →
-    specialized s zs fuel ≡ finished c k → fits c ≡ true → AcceptedFile (fileBytes (written s c))
-unfolding inputCount
-script-accepted-again s p a values zs settings fuel limit c k e f =
-    let (l, y, q) = finished-run s zs fuel e in
-    let scoped = finished-code-scoped s (checker-accepts s .0 a) zs fuel q in
-    let few = few-inputs s p a in
-    let right = inputs-right s p a in
-    let inputs : inputCount s ≤ maxInputs = leb-true (length (s .inputs)) maxInputs few in
-    let names : y ≤ 65536 = le-of-lt (names-fit s zs fuel inputs limit q) in
-    let constants = code-in-range s zs fuel values settings q in
-    let again = demand-three s (script-accepted s p a) zs fuel .accepted-again c k e f in
-    through-bytes (written s c) (written-fits s few right scoped names constants f)
-    (written-passes s few right scoped names constants f (again .structured)) (again .annotated)
+module _
+    (s : Script)
+    (passes-all : scriptRefusal s ≡ none)
+    (annotated : annotationRefusal s ≡ none)
+    (values : (i : ℕ) → Fits (nodeAt s i .value))
+    (zs : List ℤ)
+    (settings : (i : ℕ) → Fits (getD zs i (pos 0)))
+    (fuel : ℕ)
+    (limit : fuel ≤ maxFuel)
+    (c : Code)
+    (k : ℕ)
+    (ends : specialized s zs fuel ≡ finished c k)
+    (fitting : fits c ≡ true)
+  where
+    -- The code that making a script leaves, for a script past 3 to 11, numbers of 32 bits and fuel within its limit: its written
+    -- script fits the widths of a file and passes 3 to 11.
+    pub written-again : Encodable (written s c) × (scriptRefusal (written s c) ≡ none) × (annotationRefusal (written s c) ≡ none)
+    unfolding inputCount
+    written-again =
+        let (l, y, q) = finished-run s zs fuel ends in
+        let scoped = finished-code-scoped s (checker-accepts s .0 annotated) zs fuel q in
+        let few = few-inputs s passes-all annotated in
+        let right = inputs-right s passes-all annotated in
+        let inputs : inputCount s ≤ maxInputs = leb-true (length (s .inputs)) maxInputs few in
+        let names : y ≤ 65536 = le-of-lt (names-fit s zs fuel inputs limit q) in
+        let constants = code-in-range s zs fuel values settings q in
+        let again = demand-three s (script-accepted s passes-all annotated) zs fuel .accepted-again c k ends fitting in (
+          written-fits s few right scoped names constants fitting,
+          written-passes s few right scoped names constants fitting (again .structured),
+          again .annotated,
+        )
+
+    -- Its file passes ALL of refusals 1 to 11.
+    pub script-accepted-again : AcceptedFile (fileBytes (written s c))
+    script-accepted-again = let (e, r, a) = written-again in through-bytes (written s c) e r a
 
 module _ (bs : List ℕ) (bytes : AllBytes bs) (h : AcceptedFile bs) where
   script-passes : scriptRefusal (scriptIn bs) ≡ none
