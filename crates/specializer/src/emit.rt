@@ -5,6 +5,8 @@ use crate::Finish;
 use crate::Part;
 use crate::Room;
 use crate::code;
+use crate::limits::MAX_HEIGHT;
+use crate::limits::MAX_NODES;
 use crate::size;
 use machine::cell;
 use script::Counts;
@@ -129,12 +131,12 @@ fn finish_file(
 pub fn finish(codes: &[u64], p: u16, inputs: &[u16], count: u16, out: &mut [u8]) -> Finish
     ensures { λ r. ⌜ ((s : Script) (k : ℕ) → s .inputs ≡ numbered (inputRow (now (inputs .entry))) 0 count → outcome r k (now (out .exit)) ≡ afterRun s (finished (codeAt (now (codes .entry)) p) k) (now (out .entry))) ⌝ }
 {
-    let room = size::spend(codes, p, 4096, 256);
+    let room = size::spend(codes, p, MAX_NODES, MAX_HEIGHT);
     let Room::Left(left) = room else {
         return Finish::Refused(Refusal {
             number: 26,
             place: 0,
         });
     };
-    finish_file(codes, p, inputs, count, 4096 - left, out)
+    finish_file(codes, p, inputs, count, MAX_NODES - left, out)
 }
