@@ -17,6 +17,7 @@ pub mod Scopes
 pub mod TreeForms
 pub mod Agreement
 pub mod ScriptLaws
+pub mod ReachedOnce
 pub mod Filling
 pub mod MarkLaws
 pub mod HeadLaws

@@ -1,7 +1,7 @@
 -- The refusals of a file from those of its parts, and the reader's reply and tables. Assumes nothing.
 use Prim.Native.Nat.{ℕ}
 use mathlib.Core.Path.{_≡_, refl, sym, ap, _∙_}
-use mathlib.Core.Bool.{Bool, true, false}
+use mathlib.Core.Bool.{Bool, true, false, _&&_, true≢false}
 use mathlib.Core.List.{List}
 use mathlib.Core.Option.{Option, none, some}
 use native.Mathlib.Omega.{arith}
@@ -14,13 +14,14 @@ use Rattle.script.specs.declared.Counts.{Counts}
 use Rattle.script.specs.declared.Refusal.{Refusal}
 use Rattle.script.specs.declared.Verdict.{Verdict}
 use Rattle.script.specs.declared.Verdict.the-variants as Verdict
+use Rattle.script.specs.declared.Reading.{Reading}
 use Rattle.script.specs.declared.Reading.the-variants as Reading
 use Rattle.script.specs.File.{headTypes, headInputs, headNodes, scriptIn}
 use Rattle.script.specs.Refusals.{headMarked, countsRight, refusedUnless, contentOf, contentRefusal, markRefusal, earlier, earlierBy, bodyRefusal, fileRefusal}
 use Rattle.script.specs.Tables.{Tables, rowType, rowInput, rowNode, tablesScript, filled, longEnough, readRefusal, readTables}
 use Rattle.script.specs.Replies.{refusalOf, reading, Reads}
 use Rattle.script.specs.Columns.{tablesOf, contentIn, enough}
-use Rattle.script.specs.Heads.{headCounts, headRefusal, recordsRefusal, FillFits}
+use Rattle.script.specs.Heads.{headCounts, headRefusal, recordsRefusal, FillFits, FilledWhere, isPassed, filledIf, replyBy}
 use Rattle.script.specs.Walks.{Structured}
 use Rattle.script.proofs.ContentLaws.{in-limits}
 use Rattle.script.proofs.HeadLaws.{file-by-head}
@@ -128,23 +129,7 @@ module _ (bs : List ℕ) {v : Verdict} where
   unfolding refusalOf orElse
   body-after p q h = rw (file-by-head bs, ← p, q) h
 
-  -- ---- the reader: a refused file, short tables, and tables that are filled
-
-  module _ (x : Tables) where
-    pub read-refused : {f : Refusal} → refusalOf v ≡ fileRefusal bs → v ≡ Verdict.Refused f → Reads bs x x (Reading.Refused f)
-    unfolding readRefusal readTables reading refusalOf orElse
-    read-refused p q = record { reply = rw (← p, q); tables = rw (← p, q) }
-
-    pub read-short : refusalOf v ≡ fileRefusal bs → v ≡ Verdict.Passed → longEnough (headTypes bs) (headInputs bs) (headNodes bs) x ≡ false
-        → Reads bs x x (Reading.Refused (record { number = 21; place = 0 }))
-    unfolding readRefusal readTables reading refusalOf orElse refusedUnless
-    read-short p q h = record { reply = rw (← p, q, h); tables = rw (← p, q, h) }
-
-    pub read-filled : {y : Tables} {n : Counts} → refusalOf v ≡ fileRefusal bs → v ≡ Verdict.Passed
-        → longEnough (headTypes bs) (headInputs bs) (headNodes bs) x ≡ true → n ≡ headCounts bs → y ≡ filled (scriptIn bs) x
-        → Reads bs x y (Reading.Read n)
-    unfolding readRefusal readTables reading refusalOf orElse refusedUnless headCounts
-    read-filled p q h e f = record { reply = rw (← p, q, h, e); tables = rw (← p, q, h) f }
+-- ---- the reader
 
 -- the lengths that the code tests
 pub long-told : (bs : List ℕ) (x : Tables) {n : Counts} {r b : Bool} → n ≡ headCounts bs
@@ -153,3 +138,32 @@ pub long-told : (bs : List ℕ) (x : Tables) {n : Counts} {r b : Bool} → n ≡
     → r ≡ b → longEnough (headTypes bs) (headInputs bs) (headNodes bs) x ≡ b
 unfolding headCounts longEnough enough
 long-told bs x e p q = ap (λ (m : Counts). longEnough (m .types) (m .inputs) (m .nodes) x) (sym e) ∙ sym p ∙ q
+
+module _ (bs : List ℕ) (x : Tables) where
+  -- nothing is filled from a refused file, nor into short tables
+  pub where-refused : {p : Bool} → p ≡ false → FilledWhere p bs x x false
+  unfolding filledIf
+  where-refused q = record { told = rw q; tables = refl }
+
+  pub where-short : {p : Bool} → p ≡ true → longEnough (headTypes bs) (headInputs bs) (headNodes bs) x ≡ false → FilledWhere p bs x x false
+  unfolding filledIf
+  where-short q h = record { told = rw q (sym h); tables = refl }
+
+  pub where-long : {p : Bool} {y : Tables} → p ≡ true → longEnough (headTypes bs) (headInputs bs) (headNodes bs) x ≡ true
+      → y ≡ filled (scriptIn bs) x → FilledWhere p bs x y true
+  unfolding filledIf
+  where-long q h e = record { told = rw q (sym h); tables = e }
+
+  -- The reply and the tables by the file's verdict.
+  pub reads-by : {y : Tables} (v : Verdict) {n : Counts} {p full : Bool} {r : Reading} → n ≡ headCounts bs → refusalOf v ≡ fileRefusal bs
+      → p ≡ isPassed v → FilledWhere p bs x y full → r ≡ replyBy v full n → Reads bs x y r
+  unfolding readRefusal readTables reading refusalOf filledIf refusedUnless orElse headCounts
+  reads-by {y} v {n} {p} {full} {r} e t q f a = go v full t (rw q at (f .told)) (f .tables) a
+    where
+      go : (v : Verdict) (full : Bool) → refusalOf v ≡ fileRefusal bs
+          → full ≡ (isPassed v && longEnough (headTypes bs) (headInputs bs) (headNodes bs) x) → y ≡ filledIf full bs x → r ≡ replyBy v full n
+          → Reads bs x y r
+      go Verdict.Passed true t h k a = record { reply = rw (← t, ← h) (a ∙ ap Reading.Read e); tables = rw (← t, ← h) k }
+      go Verdict.Passed false t h k a = record { reply = rw (← t, ← h) a; tables = rw (← t, ← h) k }
+      go (Verdict.Refused g) true t h k a = absurd (true≢false h)
+      go (Verdict.Refused g) false t h k a = record { reply = rw (← t) a; tables = rw (← t) k }

@@ -2,6 +2,7 @@
 -- filled. Assumes nothing.
 use Prim.Native.Nat.{ℕ, _≤_}
 use mathlib.Core.Path.{_≡_}
+use mathlib.Core.Bool.{Bool, true, false, _&&_}
 use mathlib.Core.List.{List}
 use mathlib.Core.Option.{Option}
 use lib.ListN.{length}
@@ -9,8 +10,12 @@ use lib.Dec.{leb, eqb}
 use Rattle.lambdamix.specs.Checker.{Refusal}
 use Rattle.lambdamix.specs.Structure.{orElse, structureRefusal}
 use Rattle.script.specs.declared.Counts.{Counts}
-use Rattle.script.specs.File.{fileLength, headTypes, headInputs, headNodes}
-use Rattle.script.specs.Tables.{Tables, tablesScript}
+use Rattle.script.specs.declared.Verdict.{Verdict}
+use Rattle.script.specs.declared.Verdict.the-variants as Verdict
+use Rattle.script.specs.declared.Reading.{Reading}
+use Rattle.script.specs.declared.Reading.the-variants as Reading
+use Rattle.script.specs.File.{fileLength, headTypes, headInputs, headNodes, scriptIn}
+use Rattle.script.specs.Tables.{Tables, tablesScript, filled, longEnough}
 use Rattle.script.specs.Columns.{contentIn}
 use Rattle.script.specs.Refusals.{refusedUnless, headMarked, countsRight, markRefusal, earlier}
 
@@ -42,3 +47,26 @@ pub record FillFits (bs : List ℕ) (n : Counts) (x : Tables) : Type 0 where
   pub b : n .nodes ≤ length (x .b)
   pub c : n .nodes ≤ length (x .c)
   pub values : n .nodes ≤ length (x .values)
+
+abbrev pub isPassed : Verdict → Bool
+isPassed Verdict.Passed = true
+isPassed (Verdict.Refused f) = false
+
+-- tables that are filled where a test holds
+unfoldable pub filledIf : Bool → List ℕ → Tables → Tables
+filledIf true bs x = filled (scriptIn bs) x
+filledIf false bs x = x
+
+-- tables that are filled from a file that has passed, if they are long enough for its counts; r tells whether they are filled
+pub record FilledWhere (passed : Bool) (bs : List ℕ) (before after : Tables) (r : Bool) : Type 0 where
+  pub told : r ≡ (passed && longEnough (headTypes bs) (headInputs bs) (headNodes bs) before)
+  pub tables : after ≡ filledIf r bs before
+
+abbrev pub readBy : Bool → Counts → Reading
+readBy true n = Reading.Read n
+readBy false n = Reading.Refused (record { number = 21; place = 0 })
+
+-- the reply by the file's verdict and whether the tables are filled
+abbrev pub replyBy : Verdict → Bool → Counts → Reading
+replyBy Verdict.Passed full n = readBy full n
+replyBy (Verdict.Refused f) full n = Reading.Refused f

@@ -7,6 +7,7 @@ pub mod Replies
 pub mod Columns
 pub mod Heads
 pub mod Walks
+pub mod Reached
 pub mod Encodable
 pub mod Written
 pub mod AcceptedFile

@@ -22,7 +22,7 @@ use crate::tables::long_enough;
 ghost use mathlib.Core.Path.{_≡_};
 ghost use mathlib.Core.Bool.{true};
 ghost use Rattle.script.specs.Replies.{refusalOf, Reads};
-ghost use Rattle.script.specs.Heads.{headCounts, headRefusal, recordsRefusal, FillFits};
+ghost use Rattle.script.specs.Heads.{headCounts, headRefusal, recordsRefusal, FillFits, FilledWhere, isPassed, replyBy};
 ghost use Rattle.script.specs.File.{headTypes, headInputs, headNodes, scriptIn};
 ghost use Rattle.script.specs.Refusals.{countsRight, earlier, bodyRefusal, fileRefusal};
 ghost use Rattle.script.specs.Tables.{filled};
@@ -215,6 +215,71 @@ pub fn check_file(file: &[u8]) -> Verdict
     }
 }
 
+fn is_passed(v: Verdict) -> bool
+    ensures { λ r. ⌜ r ≡ isPassed v ⌝ }
+{
+    match v {
+        Verdict::Passed => true,
+        Verdict::Refused(_) => false,
+    }
+}
+
+// The file's records into the lent tables, where it is not refused and they are long enough; whether that is so.
+fn fill_where(
+    passed: bool,
+    file: &[u8],
+    n: Counts,
+    parameters: &mut [u16],
+    results: &mut [u16],
+    inputs: &mut [u16],
+    kinds: &mut [u8],
+    a: &mut [u16],
+    b: &mut [u16],
+    c: &mut [u16],
+    values: &mut [i32],
+) -> bool
+    requires { ⌜ n ≡ headCounts (now file) ⌝ }
+    ensures { λ r. ⌜ FilledWhere passed (now (file .entry)) (tablesOf (now (parameters .entry)) (now (results .entry)) (now (inputs .entry)) (now (kinds .entry)) (now (a .entry)) (now (b .entry)) (now (c .entry)) (now (values .entry))) (tablesOf (now (parameters .exit)) (now (results .exit)) (now (inputs .exit)) (now (kinds .exit)) (now (a .exit)) (now (b .exit)) (now (c .exit)) (now (values .exit))) r ⌝ }
+{
+    if passed {
+        if long_enough(
+            n,
+            parameters.len(),
+            results.len(),
+            inputs.len(),
+            kinds.len(),
+            a.len(),
+            b.len(),
+            c.len(),
+            values.len(),
+        ) {
+            fill_tables(file, n, parameters, results, inputs, kinds, a, b, c, values);
+            return true;
+        }
+        return false;
+    }
+    false
+}
+
+// The reply: the file's refusal, then 21 where the tables were not filled.
+fn reply(v: Verdict, full: bool, n: Counts) -> Reading
+    ensures { λ r. ⌜ r ≡ replyBy v full n ⌝ }
+{
+    match v {
+        Verdict::Refused(f) => Reading::Refused(f),
+        Verdict::Passed => {
+            if full {
+                Reading::Read(n)
+            } else {
+                Reading::Refused(Refusal {
+                    number: 21,
+                    place: 0,
+                })
+            }
+        }
+    }
+}
+
 // Refusals 1 to 8, then 21; what is not refused fills the lent tables.
 pub fn read(
     file: &[u8],
@@ -229,29 +294,21 @@ pub fn read(
 ) -> Reading
     ensures { λ r. ⌜ Reads (now (file .entry)) (tablesOf (now (parameters .entry)) (now (results .entry)) (now (inputs .entry)) (now (kinds .entry)) (now (a .entry)) (now (b .entry)) (now (c .entry)) (now (values .entry))) (tablesOf (now (parameters .exit)) (now (results .exit)) (now (inputs .exit)) (now (kinds .exit)) (now (a .exit)) (now (b .exit)) (now (c .exit)) (now (values .exit))) r ⌝ }
 {
-    match check_file(file) {
-        Verdict::Refused(f) => Reading::Refused(f),
-        Verdict::Passed => {
-            let n = head_counts(file);
-            if long_enough(
-                n,
-                parameters.len(),
-                results.len(),
-                inputs.len(),
-                kinds.len(),
-                a.len(),
-                b.len(),
-                c.len(),
-                values.len(),
-            ) {
-                fill_tables(file, n, parameters, results, inputs, kinds, a, b, c, values);
-                Reading::Read(n)
-            } else {
-                Reading::Refused(Refusal {
-                    number: 21,
-                    place: 0,
-                })
-            }
-        }
-    }
+    let n = head_counts(file);
+    let told = check_file(file);
+    let passed = is_passed(told);
+    let full = fill_where(
+        passed,
+        file,
+        n,
+        parameters,
+        results,
+        inputs,
+        kinds,
+        a,
+        b,
+        c,
+        values,
+    );
+    reply(told, full, n)
 }
