@@ -1,7 +1,8 @@
-// Runs the packed scripts of data/scripts.bin, each behind its length in four bytes, through the reader, and prints for each its
-// number in the file and the reader's number and place; 0 0 is a script that was read.
+// Runs the packed scripts of data/scripts.bin, each behind its length in four bytes, through the reader and, if it is read, through
+// the checker, and prints for each its number in the file and the number and place of its refusal; 0 0 is a script that is accepted.
 use libc::STDOUT_FILENO;
 use script::Reading;
+use script::Verdict;
 
 // The number of the four bytes of a length, the low byte first.
 fn length_of(head: &[u8]) -> usize {
@@ -17,6 +18,13 @@ fn print_line(k: usize, number: u8, place: usize) {
     io::write_all(STDOUT_FILENO, b" ");
     io::print_decimal(STDOUT_FILENO, place as u64);
     io::write_all(STDOUT_FILENO, b"\n");
+}
+
+fn print_verdict(k: usize, told: Verdict) {
+    match told {
+        Verdict::Passed => print_line(k, 0, 0),
+        Verdict::Refused(f) => print_line(k, f.number, f.place),
+    }
 }
 
 fn try_script(k: usize, file: &[u8]) {
@@ -40,7 +48,20 @@ fn try_script(k: usize, file: &[u8]) {
         &mut values,
     );
     match answer {
-        Reading::Read(_) => print_line(k, 0, 0),
+        Reading::Read(n) => {
+            let told = annotation::check::check(
+                n,
+                &parameters,
+                &results,
+                &inputs,
+                &kinds,
+                &a,
+                &b,
+                &c,
+                &values,
+            );
+            print_verdict(k, told);
+        }
         Reading::Refused(f) => print_line(k, f.number, f.place),
     }
 }
