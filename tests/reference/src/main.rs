@@ -6,6 +6,7 @@ mod benchmake;
 mod checker;
 mod generate;
 mod listing;
+mod makes;
 mod random;
 mod script;
 mod self_check;
@@ -33,7 +34,8 @@ const USAGE: &str = "commands:
   pack-damaged FILE SEED COUNT
   pack-whole FILE SEED COUNT MOST
   pack-long FILE COUNT
-  packed read|check|benchmake FILE
+  pack-makes FILE SEED COUNT
+  packed read|check|benchmake|make FILE
   differ PROGRAM SEED COUNT [FILE]
 ";
 
@@ -94,7 +96,12 @@ fn run(words: &[&str]) -> Result<bool, String> {
         ["packed", "check", file] => tell_packed(file, |input| {
             place(script::read(input).and_then(|script| checker::check(&script))) + "\n"
         }),
+        ["pack-makes", file, seed, count] => {
+            let calls = makes::calls(number(seed)?, number(count)? as usize);
+            pack(file, calls.len() as u64, |k| Ok(calls[k as usize].clone()))
+        }
         ["packed", "benchmake", file] => tell_packed(file, benchmake::benchmake),
+        ["packed", "make", file] => tell_packed(file, makes::told),
         ["differ", program, seed, count] => differ(program, number(seed)?, number(count)?, None),
         ["differ", program, seed, count, file] => {
             differ(program, number(seed)?, number(count)?, Some(Path::new(file)))
