@@ -1,1 +1,5 @@
 pub mod Response
+pub mod Given
+pub mod Answers
+pub mod Stages
+pub mod Maker

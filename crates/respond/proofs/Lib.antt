@@ -1,0 +1,9 @@
+pub mod Splitting
+pub mod Lines
+pub mod GivenSettings
+pub mod Files
+pub mod Holding
+pub mod Making
+pub mod WrittenFits
+pub mod Answering
+pub mod Responding
