@@ -24,7 +24,7 @@ use Rattle.script.specs.File.{numbered}
 use Rattle.script.specs.Refusals.{refusedUnless}
 use Rattle.script.specs.Tables.{Tables, rowNode, rowInput, tablesScript, tablesRefusal, over}
 use Rattle.script.proofs.RefusalLaws.{neither}
-use Rattle.script.proofs.RecordLaws.{numbered-length, numbered-at}
+use Rattle.file.proofs.RecordLaws.{numbered-length, numbered-at}
 use Rattle.printer.specs.declared.Listing.the-variants.{Listed, Refused}
 use Rattle.printer.specs.Nodes.{columnNode, nodesText, wholeText}
 use Rattle.printer.specs.Answers.{roomRefusal, listed, listedOutput, tablesText, listRefusal, Puts, Lists, ListsTables}

@@ -3,7 +3,7 @@ use crate::Listing;
 use crate::tables::list_tables;
 use script::Counts;
 use script::Verdict;
-use script::tables::tables_refusal;
+use file::tables::tables_refusal;
 ghost use Rattle.script.specs.Columns.{tablesOf};
 ghost use Rattle.printer.specs.Answers.{ListsTables};
 

@@ -26,25 +26,24 @@ use Rattle.script.specs.declared.Counts.{Counts}
 use Rattle.script.specs.declared.Refusal as Told
 use Rattle.script.specs.File.{fileBytes, fileLength, nodeOffset, headInputs, scriptIn}
 use Rattle.script.specs.Refusals.{fileRefusal}
-use Rattle.script.specs.Heads.{headCounts}
-use Rattle.script.specs.Encodable.{AllBytes}
-use Rattle.script.specs.AcceptedFile.{AcceptedFile}
+use Rattle.file.specs.Heads.{headCounts}
+use Rattle.file.specs.Encodable.{AllBytes}
 use Rattle.script.specs.Tables.{Tables, over}
 use Rattle.script.proofs.RefusalLaws.{neither}
-use Rattle.script.proofs.FileLaws.{file-length, read-written}
-use Rattle.script.proofs.AcceptedAgain.{accepted-again}
+use Rattle.file.proofs.FileLaws.{file-length, file-refusal, read-written}
+use Rattle.file.proofs.AcceptedAgain.{written-again}
 use Rattle.specializer.specs.Making.{Stores, storesSuffice, storesAfter, numbered}
-use Rattle.respond.specs.declared.Reply.{Reply}
-use Rattle.respond.specs.declared.Reply.the-variants as Reply
-use Rattle.respond.specs.Maker.{replied, Makes}
+use Rattle.specializer.specs.declared.Reply.{Reply}
+use Rattle.specializer.specs.declared.Reply.the-variants as Reply
+use Rattle.specializer.specs.Entry.{replied, Makes}
 use Rattle.respond.specs.Response.{programFuel, wholeSettings, settingsReply, unmadeText, replyText}
 use Rattle.respond.specs.Given.{givenSettings}
 use Rattle.respond.specs.Answers.{settingsRefusal, laterRefusal}
 use Rattle.respond.specs.Stages.{Prints, countsText, PrintsMade, Held, Answered, AnswersScript}
-use Rattle.respond.proofs.Files.{script-counts, few-inputs}
+use Rattle.respond.proofs.Files.{script-counts, script-passes, few-inputs}
 use Rattle.respond.proofs.GivenSettings.{given-refusal, given-reply, settings-fit}
 use Rattle.respond.proofs.Making.{before-is, making-is, MadeCode, made-told, unmade-told}
-use Rattle.respond.proofs.WrittenFits.{written-fits}
+use Rattle.respond.proofs.ValuesFit.{values-fit}
 
 -- ---- the file of code that fits
 
@@ -132,10 +131,11 @@ module _ {n : Counts} {x : Tables} (rest : List ℕ) {file made : List ℕ} {bef
         let zs : List ℤ = givenSettings rest in
         let t = made-told s zs file made _ k l ((rw q at (m .gives)) ∙ making-is h zs before enough file) in
         let c : Code = t .code in
-        let accepted : AcceptedFile bs = record { read = h .read; annotated = neither _ _ (t .free) .0 } in
-        let again = accepted-again bs (h .bytes) accepted zs (settings-fit rest all) programFuel (omega arith) c k (t .run) (t .fitting) in
-        let same : scriptIn (fileBytes (written s c)) ≡ written s c =
-        read-written (written s c) (written-fits bs (h .bytes) accepted zs (settings-fit rest all) programFuel (omega arith) c k (t .run) (t .fitting)) in
+        let annotated : annotationRefusal s ≡ none = neither _ _ (t .free) .0 in
+        let (fit, passes, again) =
+        written-again s (script-passes bs (h .read)) annotated (values-fit bs (h .bytes)) zs (settings-fit rest all) programFuel (omega arith) c k (t .run) (t .fitting) in
+        let same : scriptIn (fileBytes (written s c)) ≡ written s c = read-written (written s c) fit in
+        let read : fileRefusal (fileBytes (written s c)) ≡ none = file-refusal (written s c) fit ∙ passes in
         let part : take (fileLength 0 (n .inputs) l) made ≡ fileBytes (written s c) = file-part bs h c (t .nodes) (t .file) in
         let text : countsText k l ++ listing (scriptIn (take (fileLength 0 (n .inputs) l) made)) ≡ replyText s (Calculus.made c k) =
         ap (λ (w : List ℕ). countsText k l ++ listing (scriptIn w)) part
@@ -144,7 +144,7 @@ module _ {n : Counts} {x : Tables} (rest : List ℕ) {file made : List ℕ} {bef
         ∙ made-text s c k in
         let finish : Calculus.made c k ≡ settingsReply (wholeSettings rest) s rest = finished-reply bs h c (t .free) (t .run) (t .fitting) enough in
         record {
-          prints = rw (← finish, ← text) (p .prints (rw part (again .read)) (h .room) long);
+          prints = rw (← finish, ← text) (p .prints (rw part read) (h .room) long);
           stores = stores-left m bs h enough;
         };
   }

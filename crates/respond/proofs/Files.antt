@@ -14,11 +14,11 @@ use Rattle.lambdamix.proofs.Tests.{and-both, and-intro}
 use Rattle.script.specs.declared.Counts.{Counts}
 use Rattle.script.specs.File.{headTypes, headInputs, headNodes, scriptIn}
 use Rattle.script.specs.Refusals.{refusedUnless, countsRight, contentRefusal, scriptRefusal, bodyRefusal, fileRefusal}
-use Rattle.script.specs.Heads.{headCounts}
+use Rattle.file.specs.Heads.{headCounts}
 use Rattle.script.specs.Tables.{Tables, tablesScript, tablesRefusal, longEnough}
 use Rattle.script.proofs.RefusalLaws.{neither, no-earlier, not-refused, pass-over}
-use Rattle.script.proofs.RecordLaws.{numbered-length}
-use Rattle.script.proofs.ContentLaws.{in-limits}
+use Rattle.file.proofs.RecordLaws.{numbered-length}
+use Rattle.file.proofs.ContentLaws.{in-limits}
 use Rattle.respond.specs.Stages.{Held}
 
 pub script-counts :

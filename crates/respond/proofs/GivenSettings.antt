@@ -18,9 +18,9 @@ use Rattle.lambdamix.specs.Specializing.{Reply, unmade, staticInputs, refusedBy
 use Rattle.lambdamix.proofs.Tests.{holds-or-fails}
 use Rattle.lambdamix.proofs.Range.{Fits}
 use Rattle.script.specs.File.{numbered}
-use Rattle.script.specs.Encodable.{AllBytes}
-use Rattle.script.proofs.ByteLaws.{value-small}
-use Rattle.script.proofs.RecordLaws.{numbered-length, numbered-at}
+use Rattle.file.specs.Encodable.{AllBytes}
+use Rattle.file.proofs.ByteLaws.{value-small}
+use Rattle.file.proofs.RecordLaws.{numbered-length, numbered-at}
 use Rattle.respond.specs.Response.{programFuel, wholeSettings, settingAt, settings, settingsReply}
 use Rattle.respond.specs.Given.{givenBy, givenCount, givenSettings}
 use Rattle.respond.specs.Answers.{settingsRefusal}

@@ -20,13 +20,13 @@ use Rattle.script.specs.declared.Reading.{Reading}
 use Rattle.script.specs.declared.Reading.the-variants as Reading
 use Rattle.script.specs.File.{fileLength, headTypes, headInputs, headNodes, scriptIn}
 use Rattle.script.specs.Refusals.{refusedUnless, fileRefusal}
-use Rattle.script.specs.Heads.{headCounts}
-use Rattle.script.specs.Encodable.{AllBytes}
+use Rattle.file.specs.Heads.{headCounts}
+use Rattle.file.specs.Encodable.{AllBytes}
 use Rattle.script.specs.Tables.{Tables, tablesScript, over, filled, longEnough, readRefusal, readTables}
 use Rattle.script.specs.Replies.{reading, Reads}
-use Rattle.script.proofs.ContentLaws.{in-limits}
-use Rattle.script.proofs.FillLaws.{file-held}
-use Rattle.script.proofs.FileLaws.{read-fits}
+use Rattle.file.proofs.ContentLaws.{in-limits}
+use Rattle.file.proofs.FillLaws.{file-held}
+use Rattle.file.proofs.FileLaws.{read-fits}
 use Rattle.printer.specs.Answers.{tablesText}
 use Rattle.printer.proofs.Writing.{join}
 use Rattle.printer.proofs.ListingBound.{listing-bytes}

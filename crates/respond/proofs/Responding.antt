@@ -20,7 +20,7 @@ use Rattle.script.specs.declared.Reading.{Reading}
 use Rattle.script.specs.declared.Reading.the-variants as Reading
 use Rattle.script.specs.Bytes.{byteAt}
 use Rattle.script.specs.Refusals.{fileRefusal}
-use Rattle.script.specs.Encodable.{AllBytes}
+use Rattle.file.specs.Encodable.{AllBytes}
 use Rattle.script.specs.Columns.{enough}
 use Rattle.script.specs.Tables.{Tables, longEnough, over}
 use Rattle.script.specs.Replies.{Reads}

@@ -12,14 +12,14 @@ use borrow.Author.Tests.{ltb-true, leb-true, leb-false}
 use Rattle.lambdamix.specs.Structure.{firstFailing}
 use Rattle.script.specs.declared.Counts.{Counts}
 use Rattle.script.specs.Bytes.{byteAt, word16}
-use Rattle.script.specs.Encodable.{AllBytes}
+use Rattle.file.specs.Encodable.{AllBytes}
 use Rattle.script.specs.File.{numbered, fileLength, nodeOffset, headTypes, headInputs, headNodes}
 use Rattle.script.specs.Refusals.{headMarked, countsRight, isNone}
 use Rattle.script.specs.Tables.{Tables, over}
-use Rattle.script.proofs.RecordLaws.{numbered-length}
+use Rattle.file.proofs.RecordLaws.{numbered-length}
 use Rattle.specializer.specs.Making.{Stores}
-use Rattle.respond.specs.declared.Reply.{Reply}
-use Rattle.respond.specs.Maker.{Makes}
+use Rattle.specializer.specs.declared.Reply.{Reply}
+use Rattle.specializer.specs.Entry.{Makes}
 use Rattle.respond.specs.Response.{programFuel, headRight, scriptLengthBy, scriptLength, wholeSettings, settingMarked, settingAt}
 use Rattle.respond.specs.Given.{givenBy, givenCount, givenSettings}
 

@@ -2,4 +2,3 @@ pub mod Response
 pub mod Given
 pub mod Answers
 pub mod Stages
-pub mod Maker

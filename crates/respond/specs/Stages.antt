@@ -12,9 +12,9 @@ use Rattle.lambdamix.specs.Listing.{listing}
 use Rattle.script.specs.declared.Counts.{Counts}
 use Rattle.script.specs.File.{fileLength, scriptIn}
 use Rattle.script.specs.Refusals.{fileRefusal}
-use Rattle.script.specs.Heads.{headCounts}
+use Rattle.file.specs.Heads.{headCounts}
 use Rattle.script.specs.Columns.{enough}
-use Rattle.script.specs.Encodable.{AllBytes}
+use Rattle.file.specs.Encodable.{AllBytes}
 use Rattle.script.specs.Tables.{Tables, tablesScript, tablesRefusal, longEnough}
 use Rattle.printer.specs.Places.{Placed}
 use Rattle.printer.specs.Answers.{tablesText}

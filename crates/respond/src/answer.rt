@@ -6,11 +6,11 @@ use crate::split::known;
 use crate::split::script_end;
 use crate::stage::answer_script;
 use script::Reading;
-use script::reader::read;
+use file::reader::read;
 ghost use Prim.Native.Nat.{_≤_};
 ghost use lib.ListN.{length};
 ghost use Rattle.script.specs.Columns.{tablesOf};
-ghost use Rattle.respond.specs.Maker.{stores};
+ghost use Rattle.specializer.specs.Entry.{stores};
 ghost use Rattle.respond.specs.Answers.{Responds};
 ghost use Rattle.respond.specs.Stages.{Answers};
 

@@ -1,6 +1,6 @@
 // The settings behind a script: a record `SV` for each.
 use crate::split::is_marked;
-use script::bytes::value32;
+use file::bytes::value32;
 use script::column::put32;
 ghost use mathlib.Core.Path.{_≡_};
 ghost use Prim.Native.Nat.{_<_, _≤_};

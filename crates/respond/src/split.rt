@@ -1,12 +1,12 @@
 // Where the script ends in an input and the settings begin.
 use printer::parts::least;
-use script::bytes::word16;
+use file::bytes::word16;
 use script::column::at8;
-use script::content::counts_right;
+use file::content::counts_right;
 ghost use mathlib.Core.Path.{_≡_};
 ghost use Prim.Native.Nat.{_<_, min};
 ghost use lib.ListN.{length};
-ghost use Rattle.script.specs.Encodable.{AllBytes};
+ghost use Rattle.file.specs.Encodable.{AllBytes};
 ghost use Rattle.script.specs.Refusals.{marked};
 ghost use Rattle.respond.specs.Response.{scriptLength};
 

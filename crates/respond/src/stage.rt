@@ -1,6 +1,6 @@
 // The stages between reading and printing: the maker with the settings behind a script, and the listing of the file that it wrote.
-use crate::Reply;
-use crate::maker::make;
+use specializer::Reply;
+use specializer::make::make;
 use crate::print::list_at;
 use crate::print::print_counts;
 use crate::print::print_unmade;
@@ -10,14 +10,14 @@ use crate::split::known;
 use printer::parts::least;
 use script::Counts;
 use script::Reading;
-use script::reader::read;
+use file::reader::read;
 ghost use mathlib.Core.Bool.{false};
 ghost use mathlib.Core.Path.{_≡_};
 ghost use Prim.Native.Nat.{_≤_};
 ghost use Rattle.script.specs.File.{fileLength};
 ghost use lib.ListN.{length};
 ghost use Rattle.script.specs.Columns.{tablesOf};
-ghost use Rattle.respond.specs.Maker.{stores, Makes};
+ghost use Rattle.specializer.specs.Entry.{stores, Makes};
 ghost use Rattle.respond.specs.Response.{programFuel};
 ghost use Rattle.respond.specs.Given.{givenSettings};
 ghost use Rattle.respond.specs.Stages.{ListsFile, PrintsMade, AnswersScript};

@@ -7,3 +7,7 @@ pub mod FieldLaws
 pub mod CodeTrees
 pub mod Emission
 pub mod Finishing
+pub mod Refusing
+pub mod Numbers
+pub mod Making
+pub mod EntryDemand

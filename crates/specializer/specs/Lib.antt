@@ -3,3 +3,5 @@ pub mod Cells
 pub mod Making
 pub mod Fields
 pub mod Answers
+pub mod Entry
+pub mod EntryDemand

@@ -5,8 +5,8 @@ use script::Reading;
 
 // The number of the four bytes of a length, the low byte first.
 fn length_of(head: &[u8]) -> usize {
-    let low = script::bytes::word16(head, 0) as usize;
-    let high = script::bytes::word16(head, 2) as usize;
+    let low = file::bytes::word16(head, 0) as usize;
+    let high = file::bytes::word16(head, 2) as usize;
     low + 65536 * high
 }
 
@@ -28,7 +28,7 @@ fn try_script(k: usize, file: &[u8]) {
     let mut b = [0u16; 4096];
     let mut c = [0u16; 4096];
     let mut values = [0i32; 4096];
-    let answer = script::reader::read(
+    let answer = file::reader::read(
         file,
         &mut parameters,
         &mut results,

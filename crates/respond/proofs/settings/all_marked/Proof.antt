@@ -3,7 +3,7 @@ use Prim.Native.Nat.{_-_}
 use mathlib.Core.Path.{sym, ap, _∙_}
 use native.Mathlib.Omega.{arith}
 use Rattle.script.specs.Refusals.{isNone}
-use Rattle.script.proofs.Searching.{Searching, search-begins, search-goes-on, search-finds, search-ends}
+use Rattle.file.proofs.Searching.{Searching, search-begins, search-goes-on, search-finds, search-ends}
 use Rattle.respond.specs.Response.{settingMarked}
 use Rattle.respond.proofs.settings.all_marked.Statement.{statement}
 use Rattle.respond.proofs.settings.all_marked.Tie as tie

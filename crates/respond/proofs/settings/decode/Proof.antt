@@ -4,7 +4,7 @@ use mathlib.Core.Path.{_∙_}
 use native.Mathlib.Omega.{arith}
 use mir.Syntax.{w32}
 use mir.Facts.{toZ-ofZ}
-use Rattle.script.proofs.Filling.{Filling, fill-begins, fill-goes-on, fill-ends, fill-length}
+use Rattle.file.proofs.Filling.{Filling, fill-begins, fill-goes-on, fill-ends, fill-length}
 use Rattle.respond.specs.Response.{settingAt}
 use Rattle.respond.proofs.settings.decode.Statement.{statement}
 use Rattle.respond.proofs.settings.decode.Tie as tie

@@ -2,7 +2,7 @@
 use borrow.Author.Tests.{eq-eqb, ne-eqb}
 use Rattle.script.specs.Bytes.{byteAt}
 use Rattle.script.specs.Refusals.{marked}
-use Rattle.script.proofs.MarkLaws.{unmarked-past}
+use Rattle.file.proofs.MarkLaws.{unmarked-past}
 use borrow.Author.Needs.{needs}
 use Rattle.respond.proofs.split.is_marked.Statement.{statement}
 use Rattle.respond.proofs.split.is_marked.Tie as tie

@@ -1,0 +1,43 @@
+-- What is refused before a run, joined from its tests: 12 and 13 from the settings' count and the fuel, 20 from the stores' lengths, and
+-- each check's reply where the one before it passed. Assumes nothing.
+use Prim.Native.Nat.{ℕ, _+_, _*_, _≤_, _<_}
+use mathlib.Core.Path.{_≡_, refl, sym, ap, _∙_}
+use mathlib.Core.Bool.{Bool, true, false, _&&_}
+use mathlib.Core.List.{List}
+use mathlib.Core.Option.{Option, none, some}
+use lib.IntN.{ℤ}
+use lib.ListN.{length}
+use lib.Dec.{eqb, leb}
+use borrow.Author.Tests.{eq-eqb, ne-eqb, le-leb, lt-leb}
+use Rattle.lambdamix.specs.Limits.{maxInputs, maxFuel}
+use Rattle.lambdamix.specs.Script.{Script}
+use Rattle.lambdamix.specs.Checker.{Refusal}
+use Rattle.lambdamix.specs.Structure.{orElse}
+use Rattle.lambdamix.specs.Specializing.{callRefusal, refusedBy, staticInputs}
+use Rattle.script.specs.Refusals.{refusedUnless}
+use Rattle.script.specs.Tables.{Tables, tablesScript, tablesRefusal}
+use Rattle.specializer.specs.Making.{Stores, storesSuffice, refusalBefore}
+use Rattle.specializer.specs.Entry.{suffices, laterRefusal}
+
+module _ (s : Script) (zs : List ℤ) (fuel : ℕ) where
+  pub wrong-settings : ¬ (length zs ≡ staticInputs (s .inputs)) → some (record { number = 12; place = 0 }) ≡ callRefusal s zs fuel
+  unfolding callRefusal refusedBy orElse
+  wrong-settings h = rw (ne-eqb _ _ h)
+
+  pub wrong-fuel :
+      length zs ≡ staticInputs (s .inputs) → maxFuel < fuel → some (record { number = 13; place = 0 }) ≡ callRefusal s zs fuel
+  unfolding callRefusal refusedBy orElse
+  wrong-fuel e h = rw (eq-eqb _ _ e, lt-leb _ _ h)
+
+  pub right-call : length zs ≡ staticInputs (s .inputs) → fuel ≤ maxFuel → none ≡ callRefusal s zs fuel
+  unfolding callRefusal refusedBy orElse
+  right-call e h = rw (eq-eqb _ _ e, le-leb _ _ h)
+
+-- 1 to 8, then the rest, for stores of these lengths
+pub refusal-joined :
+    (bare : Bool) (t i n : ℕ) (x : Tables) (zs : List ℤ) (fuel : ℕ) (m : Stores) {cells words codes : ℕ} →
+    length (m .cells) ≡ cells → length (m .words) ≡ words → length (m .codes) ≡ codes →
+    refusalBefore bare t i n x zs fuel m
+    ≡ orElse (tablesRefusal t i n x) (laterRefusal bare (tablesScript t i n x) zs fuel (suffices fuel cells words codes))
+unfolding refusalBefore laterRefusal storesSuffice suffices
+refusal-joined bare t i n x zs fuel m e f g = rw (e, f, g)
