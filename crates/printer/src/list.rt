@@ -1,9 +1,9 @@
 // The listing of a script in lent tables.
 use crate::Listing;
 use crate::tables::list_tables;
+use file::tables::tables_refusal;
 use script::Counts;
 use script::Verdict;
-use file::tables::tables_refusal;
 ghost use Rattle.script.specs.Columns.{tablesOf};
 ghost use Rattle.printer.specs.Answers.{ListsTables};
 

@@ -1,6 +1,6 @@
 // Whether what is lent suffices for every input.
-use script::Counts;
 use file::tables::long_enough;
+use script::Counts;
 ghost use mathlib.Core.Path.{_≡_};
 ghost use mathlib.Core.Bool.{_&&_};
 ghost use lib.Dec.{leb};

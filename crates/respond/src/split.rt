@@ -1,8 +1,8 @@
 // Where the script ends in an input and the settings begin.
-use printer::parts::least;
 use file::bytes::word16;
+use printer::parts::least;
 use script::column::at8;
-use file::content::counts_right;
+use script::limits::counts_right;
 ghost use mathlib.Core.Path.{_≡_};
 ghost use Prim.Native.Nat.{_<_, min};
 ghost use lib.ListN.{length};

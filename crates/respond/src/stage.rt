@@ -1,16 +1,16 @@
 // The stages between reading and printing: the maker with the settings behind a script, and the listing of the file that it wrote.
-use specializer::Reply;
-use specializer::make::make;
 use crate::print::list_at;
 use crate::print::print_counts;
 use crate::print::print_unmade;
 use crate::settings::decode;
 use crate::settings::given_count;
 use crate::split::known;
+use file::reader::read;
 use printer::parts::least;
 use script::Counts;
 use script::Reading;
-use file::reader::read;
+use specializer::Reply;
+use specializer::make::make;
 ghost use mathlib.Core.Bool.{false};
 ghost use mathlib.Core.Path.{_≡_};
 ghost use Prim.Native.Nat.{_≤_};
