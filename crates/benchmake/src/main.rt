@@ -57,10 +57,12 @@ fn more() -> bool {
 
 // Reads what is left of standard input.
 fn drain() {
-    for _k in 0..1000000000 {
+    let mut turns: usize = 1000000000;
+    while 0 < turns {
         if !more() {
-            break;
+            return;
         }
+        turns -= 1;
     }
 }
 
