@@ -1,0 +1,3 @@
+//! How much of the stack the deepest calls take.
+
+pub fn report() {}
