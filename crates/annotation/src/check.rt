@@ -1,8 +1,8 @@
 // The checker: refusals 1 to 8 as the file of the tables, then 9 to 11.
 use crate::typing::annotation_refusal;
+use file::tables::tables_refusal;
 use script::Counts;
 use script::Verdict;
-use script::tables::tables_refusal;
 ghost use mathlib.Core.Path.{_≡_};
 ghost use Rattle.script.specs.Replies.{refusalOf};
 ghost use Rattle.annotation.specs.Answers.{tablesOf};

@@ -17,7 +17,7 @@ use Rattle.lambdamix.specs.Term.{tree}
 use Rattle.lambdamix.specs.Text.{ascii, digits}
 use Rattle.lambdamix.specs.Listing.{termText, listing}
 use Rattle.lambdamix.proofs.Falling.{below-at}
-use Rattle.script.specs.Encodable.{Encodable}
+use Rattle.file.specs.Encodable.{Encodable}
 use Rattle.script.specs.Refusals.{scriptRefusal}
 use Rattle.printer.specs.Nodes.{nodesText}
 use Rattle.printer.proofs.NodeLaws.{node-step}

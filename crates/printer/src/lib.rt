@@ -1,8 +1,11 @@
 // The listing of a script: annotations and lifts dropped.
+pub mod list;
 pub mod parts;
-pub mod tables;
-pub mod walk;
-pub mod words;
+mod tables;
+mod walk;
+mod words;
+
+use script::Refusal;
 
 // A part of a listing that is written in one go: nothing, one letter, a word, a number, or a number behind a letter.
 pub enum Part {
@@ -12,8 +15,8 @@ pub enum Part {
     App,
     Fix,
     If,
-    Number(u32),
-    Prefixed(u8, u32),
+    Number(u64),
+    Prefixed(u8, u64),
 }
 
 // What stands first in the text of a node: the constant's value, nothing (a variable is its name, a lift its child), or,
@@ -28,8 +31,8 @@ pub enum Word {
     Sign,
 }
 
-// The listing's answer: how many bytes it wrote, or that the output is too short.
+// The listing's answer: how many bytes it wrote, or number and place.
 pub enum Listing {
     Listed(usize),
-    TooShort,
+    Refused(Refusal),
 }

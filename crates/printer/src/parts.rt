@@ -13,7 +13,7 @@ ghost use Rattle.printer.specs.Parts.{partText};
 const MOST: usize = 18446744073709551615;
 
 // A number in decimal, without leading zeros.
-fn put_digits(out: &mut [u8], x: u32) -> usize
+fn put_digits(out: &mut [u8], x: u64) -> usize
     ensures { λ r. ⌜ Put (digits x) (now (out .entry)) (now (out .exit)) r ⌝ }
 {
     if x < 10 {
@@ -45,15 +45,24 @@ fn put_text(out: &mut [u8], text: &[u8]) -> usize
     i
 }
 
+// Writes a text into what remains of the output from a place on; gives the next place.
+pub fn text_at(out: &mut [u8], at: usize, text: &[u8]) -> usize
+    ensures { λ r. ⌜ Placed (now (text .entry)) at (now (out .entry)) (now (out .exit)) r ⌝ }
+{
+    let from = least(at, out.len());
+    let n = put_text(&mut out[from..], text);
+    further(at, n)
+}
+
 // The lower of two places.
-fn least(a: usize, b: usize) -> usize
+pub fn least(a: usize, b: usize) -> usize
     ensures { λ r. ⌜ r ≡ min a b ⌝ }
 {
     if a < b { a } else { b }
 }
 
 // The place n past a place.
-fn further(at: usize, n: usize) -> usize
+pub fn further(at: usize, n: usize) -> usize
     ensures { λ r. ⌜ r ≡ min (at + n) most ⌝ }
 {
     if n < MOST - at {
@@ -63,7 +72,7 @@ fn further(at: usize, n: usize) -> usize
 }
 
 // Writes the digits of a number into what remains of the output from a place on; gives the next place.
-fn digits_at(out: &mut [u8], at: usize, x: u32) -> usize
+fn digits_at(out: &mut [u8], at: usize, x: u64) -> usize
     ensures { λ r. ⌜ Placed (digits x) at (now (out .entry)) (now (out .exit)) r ⌝ }
 {
     let from = least(at, out.len());
@@ -72,7 +81,7 @@ fn digits_at(out: &mut [u8], at: usize, x: u32) -> usize
 }
 
 // A letter, then the digits of a number.
-fn put_prefixed(out: &mut [u8], letter: u8, x: u32) -> usize
+fn put_prefixed(out: &mut [u8], letter: u8, x: u64) -> usize
     ensures { λ r. ⌜ Put (letter ∷ digits x) (now (out .entry)) (now (out .exit)) r ⌝ }
 {
     column::put8(out, 0, letter);

@@ -2,11 +2,12 @@
 use crate::Listing;
 use crate::walk::whole;
 use script::Counts;
+use script::Refusal;
 ghost use Rattle.printer.specs.Answers.{Lists};
 
 // A first walk, which is lent no room, finds how long the listing is; a second writes it. No listing of a script past
 // refusals 1 to 8 passes 65,536 bytes.
-pub fn list_tables(
+pub(crate) fn list_tables(
     n: Counts,
     kinds: &[u8],
     a: &[u16],
@@ -22,5 +23,8 @@ pub fn list_tables(
         whole(n, kinds, a, b, c, values, out);
         return Listing::Listed(length);
     }
-    Listing::TooShort
+    Listing::Refused(Refusal {
+        number: 21,
+        place: 0,
+    })
 }

@@ -134,7 +134,7 @@ fn root(nodes: u16) -> NodeNumber
 }
 
 // The text of the root, and a newline.
-pub fn whole(
+pub(crate) fn whole(
     n: Counts,
     kinds: &[u8],
     a: &[u16],

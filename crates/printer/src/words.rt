@@ -28,7 +28,7 @@ const WORDS: [Word; 13] = [
 
 const SIGNS: [u8; 6] = [b'+', b'-', b'*', b'/', b'=', b'<'];
 
-pub fn word_of(kind: u8) -> Word
+pub(crate) fn word_of(kind: u8) -> Word
     ensures { λ r. ⌜ r ≡ wordOf kind ⌝ }
 {
     let k = kind as usize;
@@ -54,13 +54,13 @@ fn decimal(z: i32) -> Part
     ensures { λ r. ⌜ partText r ≡ decimal z ⌝ }
 {
     if z < 0 {
-        return Part::Prefixed(b'-', (-(z as i64)) as u32);
+        return Part::Prefixed(b'-', (-(z as i64)) as u64);
     }
-    Part::Number(z as u32)
+    Part::Number(z as u64)
 }
 
 // What stands first in the text of a node of field c and a value.
-pub fn word(w: Word, c: u16, value: i32) -> Part
+pub(crate) fn word(w: Word, c: u16, value: i32) -> Part
     ensures { λ r. ⌜ partText r ≡ wordText w c value ⌝ }
 {
     match w {
@@ -75,7 +75,7 @@ pub fn word(w: Word, c: u16, value: i32) -> Part
 }
 
 // A bracket or a space, where the word stands in brackets.
-pub fn frame(w: Word, letter: u8) -> Part
+pub(crate) fn frame(w: Word, letter: u8) -> Part
     ensures { λ r. ⌜ partText r ≡ framed w letter ⌝ }
 {
     match w {
@@ -90,12 +90,12 @@ pub fn frame(w: Word, letter: u8) -> Part
 }
 
 // "`i0` an input, `v2` a binder's name".
-pub fn name(inputs: u16, x: Name) -> Part
+pub(crate) fn name(inputs: u16, x: Name) -> Part
     ensures { λ r. ⌜ partText r ≡ nameText inputs (x .0) ⌝ }
 {
     let n = x.0;
     if n < inputs {
-        return Part::Prefixed(b'i', n as u32);
+        return Part::Prefixed(b'i', n as u64);
     }
-    Part::Prefixed(b'v', n as u32)
+    Part::Prefixed(b'v', n as u64)
 }

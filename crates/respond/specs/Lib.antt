@@ -1,1 +1,4 @@
 pub mod Response
+pub mod Given
+pub mod Answers
+pub mod Stages

@@ -1,1 +1,13 @@
 // What the program answers to its input.
+pub mod answer;
+mod print;
+mod room;
+mod settings;
+mod split;
+mod stage;
+
+// How many bytes were written, or that something lent is too short.
+pub enum Response {
+    Printed(usize),
+    TooShort,
+}

@@ -71,6 +71,10 @@ fits-fields :
 unfolding nodeFits
 fits-fields t n f j e = and-both (fieldsRight t n j (rowOf (f j) .uses) (fields (f j))) _ (and-both (ltb (f j .kind) 13) _ e .1) .0
 
+pub children-fall : (t n : ℕ) (f : ℕ → Node) (j m : ℕ) → nodeFits t n f j ≡ true → member m (children (f j)) ≡ true → m < j
+unfolding children
+children-fall t n f j m e h = fields-fall t n j m (rowOf (f j) .uses) (fields (f j)) (fits-fields t n f j e) h
+
 module _ (t i n : ℕ) (x : Tables) where
   script-uses : (j : ℕ) → uses (tablesScript t i n x .nodes) j ≡ usesBelow (columnsOf x) n j
   unfolding tablesScript uses numbered usesBelow
@@ -111,10 +115,7 @@ module _ (t i n : ℕ) (x : Tables) where
 
   module _ (fit : (j : ℕ) → j < n → nodeFits t i (rowNode x) j ≡ true) where
     script-falls : (j m : ℕ) → j < n → IsChildOf (columnsOf x) j m → m < j
-    unfolding children
-    script-falls j m l c =
-        fields-fall t i j m (rowOf (rowNode x j) .uses) (fields (rowNode x j)) (fits-fields t i (rowNode x) j (fit j l))
-        (rw (sym (children-at x j)) at c)
+    script-falls j m l c = children-fall t i (rowNode x) j m (fit j l) (rw (sym (children-at x j)) at c)
 
     height-agrees :
         1 ≤ n → firstFailing (usedOnceAt (columnsOf x) n) 0 (n - 1) ≡ none

@@ -36,7 +36,7 @@ split here = inl refl
 split {x} {r} (further {i} {j} p d) =
     ⊎-elim (λ e. inr (j, subst (λ (k : ℕ). IsChildOf x k j) e d, here)) (λ u. inr (u .0, u .1, further (u .2) d)) (split p)
 
-occurring : (j : ℕ) (ms : List ℕ) → 0 < occurrences j ms → member j ms ≡ true
+pub occurring : (j : ℕ) (ms : List ℕ) → 0 < occurrences j ms → member j ms ≡ true
 unfolding occurrences member oneIf
 occurring j [] h = let z : ⊥ = omega arith in absurd z
 occurring j (m ∷ ms) h = go (eqb m j) h (occurring j ms)

@@ -27,7 +27,7 @@ unfoldable pub All : {A : Type 0} → (A → Type 0) → List A → Type 0
 All P [] = Unit {0}
 All P (x ∷ xs) = P x × All P xs
 
-at-all : {A : Type 0} (P : A → Type 0) (d : A) (xs : List A) → P d → All P xs → (k : ℕ) → P (getD xs k d)
+pub at-all : {A : Type 0} (P : A → Type 0) (d : A) (xs : List A) → P d → All P xs → (k : ℕ) → P (getD xs k d)
 unfolding All
 at-all P d [] p q k = p
 at-all P d (x ∷ xs) p q zero = q .0

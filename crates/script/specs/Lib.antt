@@ -5,9 +5,5 @@ pub mod Refusals
 pub mod Tables
 pub mod Replies
 pub mod Columns
-pub mod Heads
 pub mod Walks
-pub mod Encodable
-pub mod Written
-pub mod AcceptedFile
-pub mod FileTrials
+pub mod Reached

@@ -1,16 +1,8 @@
-// The script file: reader, writer and the checks of structure that they share. Refusals 1 to 8 and 21.
-pub mod bytes;
+// The script: its tables' words, the limits, the columns, and the checks of structure that reader, writer and checks share.
 pub mod column;
-pub mod content;
-mod fill;
 pub mod kinds;
 pub mod limits;
-mod marks;
-pub mod reader;
-mod records;
 pub mod structure;
-pub mod tables;
-pub mod writer;
 
 // A node's number, a name and a type's number have 16 bits each, and a place that wants one never takes another.
 pub struct NodeNumber(pub u16);

@@ -1,4 +1,7 @@
 // The limits of a script, each in one place.
+ghost use mathlib.Core.Path.{_≡_};
+ghost use Rattle.script.specs.Refusals.{countsRight};
+
 pub const MAX_TYPES: usize = 64;
 
 pub const MAX_INPUTS: usize = 16;
@@ -6,3 +9,19 @@ pub const MAX_INPUTS: usize = 16;
 pub const MAX_NODES: usize = 4096;
 
 pub const MAX_HEIGHT: usize = 256;
+
+// "64 listed types, 16 inputs, 1 to 4,096 nodes"
+pub fn counts_right(types: usize, inputs: usize, nodes: usize) -> bool
+    ensures { λ r. ⌜ r ≡ countsRight types inputs nodes ⌝ }
+{
+    if MAX_TYPES < types {
+        return false;
+    }
+    if MAX_INPUTS < inputs {
+        return false;
+    }
+    if nodes < 1 {
+        return false;
+    }
+    nodes <= MAX_NODES
+}

@@ -10,6 +10,8 @@ use crate::column::at16;
 use crate::column::put8;
 use crate::column::put16;
 use crate::kinds::use_of;
+use crate::limits::MAX_HEIGHT;
+use crate::limits::MAX_NODES;
 use lambdamix::Use;
 ghost use mathlib.Core.Path.{_≡_};
 ghost use mathlib.Core.List.{[], _∷_};
@@ -126,12 +128,10 @@ fn first_misused(kinds: &[u8], a: &[u16], b: &[u16], c: &[u16], nodes: usize) ->
     ensures { λ r. ⌜ foundAt r ≡ firstFailing (usedOnceAt
         (columns (now (kinds .entry)) (now (a .entry)) (now (b .entry)) (now (c .entry))) nodes) 0 (nodes - 1) ⌝ }
 {
-    let mut counts = [0u8; 4096];
+    let mut counts = [0u8; MAX_NODES];
     count_nodes(kinds, a, b, c, &mut counts, nodes);
     first_not_one(&counts, nodes - 1)
 }
-
-const HIGHEST: usize = 256;
 
 // The height of a node's tree, and the lowest of its nodes that is too high.
 struct Tall {
@@ -171,7 +171,7 @@ fn lower_than(i: usize, q: Found) -> Found
 fn too_high(i: NodeNumber, height: usize) -> Found
     ensures { λ r. ⌜ foundAt r ≡ firstBy (leb height maxHeight) (i .0) none ⌝ }
 {
-    if height <= HIGHEST {
+    if height <= MAX_HEIGHT {
         return Found::Nowhere;
     }
     Found::At(i.0 as usize)
@@ -366,7 +366,7 @@ fn scope_refusal(
     ensures { λ r. ⌜ refusalOf r ≡ refusedAt 8 (unboundAt
         (columns (now (kinds .entry)) (now (a .entry)) (now (b .entry)) (now (c .entry))) inputs (root .0) []) ⌝ }
 {
-    let mut names = [0u16; 256];
+    let mut names = [0u16; MAX_HEIGHT];
     let place = scope_node(kinds, a, b, c, inputs, &mut names, 0, root);
     match place {
         Found::Nowhere => Verdict::Passed,
@@ -415,7 +415,7 @@ pub fn structure_refusal(
     if nodes < 1 {
         return Verdict::Passed;
     }
-    if 4096 < nodes {
+    if MAX_NODES < nodes {
         return Verdict::Passed;
     }
     let place = first_misused(kinds, a, b, c, nodes);

@@ -20,12 +20,14 @@ use Rattle.specializer.specs.Making as Making
 use Rattle.specializer.specs.Making.{Stores, Made}
 use Rattle.specializer.specs.Entry as Entry
 use Rattle.specializer.specs.Entry.{replied}
+use Rattle.printer.specs.declared.Listing.{Listing}
+use Rattle.printer.specs.Answers.{ListsTables}
 use Rattle.scriptmaker.specs.declared.Counts.{Counts}
 use Rattle.scriptmaker.specs.declared.ReadReply.{ReadReply}
 use Rattle.scriptmaker.specs.declared.WriteReply.{WriteReply}
 use Rattle.scriptmaker.specs.declared.CheckReply.{CheckReply}
 use Rattle.scriptmaker.specs.declared.MakeReply.{MakeReply}
-use Rattle.scriptmaker.specs.Calls.{countsOf, readReply, writeReply, checkReply, makeReply, Reads, Writes, Checks, Makes}
+use Rattle.scriptmaker.specs.Calls.{countsOf, readReply, writeReply, listReply, checkReply, makeReply, Reads, Writes, Lists, Checks, Makes}
 
 pub reads :
     (bs : List ℕ) (before after : Tables) (r : Reading) (q : ReadReply) → Replies.Reads bs before after r → q ≡ readReply r →
@@ -39,6 +41,13 @@ pub writes :
 writes n m x before after r q same h e =
     let k : Replies.Writes (countsOf n) x before after r = subst (λ (o : Script.Counts). Replies.Writes o x before after r) same h in
     record { reply = e ∙ ap (λ (a : Writing). writeReply a) (k .reply); output = k .output }
+
+pub lists :
+    (n : Counts) (m : Script.Counts) (x : Tables) (before after : List ℕ) (r : Listing) (q : WriteReply) → m ≡ countsOf n →
+    ListsTables m x before after r → q ≡ listReply r → Lists n x before after q
+lists n m x before after r q same h e =
+    let k : ListsTables (countsOf n) x before after r = subst (λ (o : Script.Counts). ListsTables o x before after r) same h in
+    record { reply = e ∙ ap (λ (a : Listing). listReply a) (k .reply); output = k .output }
 
 pub checks :
     (n : Counts) (m : Script.Counts) (x : Tables) (v : Verdict) (q : CheckReply) → m ≡ countsOf n →

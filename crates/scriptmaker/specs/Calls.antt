@@ -17,6 +17,9 @@ use Rattle.script.specs.Replies.{reading, writing}
 use Rattle.annotation.specs.Checks.{checkRefusal}
 use Rattle.specializer.specs.Making as Making
 use Rattle.specializer.specs.Making.{Stores, made, unmade, making, refusalBefore, storesAfter}
+use Rattle.printer.specs.declared.Listing.{Listing}
+use Rattle.printer.specs.declared.Listing.the-variants as Listing
+use Rattle.printer.specs.Answers.{listed, listedOutput, tablesText, listRefusal}
 use Rattle.scriptmaker.specs.declared.Counts.{Counts}
 use Rattle.scriptmaker.specs.declared.ReadReply.{ReadReply}
 use Rattle.scriptmaker.specs.declared.WriteReply.{WriteReply}
@@ -37,6 +40,11 @@ readReply (Reading.Refused f) =
 unfoldable pub writeReply : Writing → WriteReply
 writeReply (Writing.Written k) = record { number = 0; place = 0; length = k }
 writeReply (Writing.Refused f) = record { number = f .number; place = f .place; length = 0 }
+
+-- the listing's answer; a refusal has length 0
+unfoldable pub listReply : Listing → WriteReply
+listReply (Listing.Listed k) = record { number = 0; place = 0; length = k }
+listReply (Listing.Refused f) = record { number = f .number; place = f .place; length = 0 }
 
 -- the checker's answer
 unfoldable pub checkReply : Option Refusal → CheckReply
@@ -59,6 +67,11 @@ pub record Writes (n : Counts) (x : Tables) (before after : List ℕ) (r : Write
       r ≡ writeReply (writing (writeRefusal (n .types) (n .inputs) (n .nodes) x before) (tablesScript (n .types) (n .inputs) (n .nodes) x))
   pub output :
       after ≡ writtenOutput (writeRefusal (n .types) (n .inputs) (n .nodes) x before) (tablesScript (n .types) (n .inputs) (n .nodes) x) before
+
+-- listing: the reply, and the output after it
+pub record Lists (n : Counts) (x : Tables) (before after : List ℕ) (r : WriteReply) : Type 0 where
+  pub reply : r ≡ listReply (listed (listRefusal (countsOf n) x before) (tablesText (countsOf n) x))
+  pub output : after ≡ listedOutput (listRefusal (countsOf n) x before) (tablesText (countsOf n) x) before
 
 -- checking: the reply
 pub record Checks (n : Counts) (x : Tables) (r : CheckReply) : Type 0 where

@@ -1,6 +1,7 @@
-// Reading, writing, checking, making and the bare run for callers in C and Rust: functions with C's names and structs over the
-// proved entries. A slice is passed as a pointer and a length, and a lent slice overlaps no other.
+// Reading, writing, checking, making, the bare run and the listing for callers in C and Rust: functions with C's names and structs
+// over the proved entries. A slice is passed as a pointer and a length, and a lent slice overlaps no other.
 pub mod check;
+pub mod list;
 pub mod make;
 pub mod read;
 pub mod write;
@@ -31,7 +32,7 @@ pub struct ReadReply {
     pub counts: Counts,
 }
 
-// The length of the file that was written.
+// The length of the file or the listing that was written.
 #[repr(C)]
 pub struct WriteReply {
     pub number: u8,

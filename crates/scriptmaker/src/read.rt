@@ -1,8 +1,8 @@
 // The reader.
 use crate::Counts;
 use crate::ReadReply;
+use file::reader::read;
 use script::Reading;
-use script::reader::read;
 ghost use mathlib.Core.Path.{_≡_};
 ghost use Rattle.script.specs.Columns.{tablesOf};
 ghost use Rattle.scriptmaker.specs.Calls.{readReply, Reads};

@@ -2,8 +2,8 @@
 use crate::Counts;
 use crate::WriteReply;
 use crate::counted;
+use file::writer::write;
 use script::Writing;
-use script::writer::write;
 ghost use mathlib.Core.Path.{_≡_};
 ghost use Rattle.script.specs.Columns.{tablesOf};
 ghost use Rattle.scriptmaker.specs.Calls.{writeReply, Writes};

@@ -11,10 +11,10 @@ use Rattle.lambdamix.specs.Script.{Node}
 use Rattle.lambdamix.specs.Code.{Code, lit, node, top, nodesFrom}
 use Rattle.script.specs.Bytes.{signed32}
 use Rattle.script.specs.File.{nodeBytes, records}
-use Rattle.script.specs.Written.{Put}
-use Rattle.script.proofs.RecordLaws.{records-length}
-use Rattle.script.proofs.Layouts.{nodeLayout}
-use Rattle.script.proofs.WritingLaws.{put-both, put-same, records-append}
+use Rattle.file.specs.Written.{Put}
+use Rattle.file.proofs.RecordLaws.{records-length}
+use Rattle.file.proofs.Layouts.{nodeLayout}
+use Rattle.file.proofs.WritingLaws.{put-both, put-same, records-append}
 use Rattle.specializer.specs.declared.Field.{Field}
 use Rattle.specializer.specs.declared.Field.the-variants as Field
 use Rattle.specializer.specs.Cells.{Sort, constant, variable, function, pair, single, triple, operation, sortOf, cellKind, codeBy, codeAt}

@@ -18,11 +18,11 @@ use Rattle.lambdamix.proofs.Tests.{and-both}
 use Rattle.lambdamix.proofs.WrittenTree.{top-last, written-size}
 use Rattle.script.specs.Bytes.{bytes16}
 use Rattle.script.specs.File.{headBytes, inputBytes, nodeBytes, records, numbered, fileBytes, fileLength, nodeOffset}
-use Rattle.script.specs.Written.{Put, headRow}
-use Rattle.script.proofs.RecordLaws.{numbered-length, records-length}
-use Rattle.script.proofs.Layouts.{inputLayout}
-use Rattle.script.proofs.FileLaws.{file-length}
-use Rattle.script.proofs.WritingLaws.{put-both, put-same, put-over}
+use Rattle.file.specs.Written.{Put, headRow}
+use Rattle.file.proofs.RecordLaws.{numbered-length, records-length}
+use Rattle.file.proofs.Layouts.{inputLayout}
+use Rattle.file.proofs.FileLaws.{file-length}
+use Rattle.file.proofs.WritingLaws.{put-both, put-same, put-over}
 use Rattle.specializer.specs.declared.Finish.the-variants as Finish
 use Rattle.specializer.specs.Cells.{spend}
 use Rattle.specializer.specs.Making.{writtenBy, afterRun}

@@ -10,3 +10,4 @@ pub mod Finishing
 pub mod Refusing
 pub mod Numbers
 pub mod Making
+pub mod EntryDemand

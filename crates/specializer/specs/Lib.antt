@@ -4,3 +4,4 @@ pub mod Making
 pub mod Fields
 pub mod Answers
 pub mod Entry
+pub mod EntryDemand

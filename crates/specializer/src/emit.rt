@@ -5,11 +5,13 @@ use crate::Finish;
 use crate::Part;
 use crate::Room;
 use crate::code;
+use crate::limits::MAX_HEIGHT;
+use crate::limits::MAX_NODES;
 use crate::size;
+use file::writer;
 use machine::cell;
 use script::Counts;
 use script::Refusal;
-use script::writer;
 ghost use Prim.Native.Nat.{ℕ, _+_, _*_, _<_, _≤_};
 ghost use mathlib.Core.Path.{_≡_};
 ghost use mathlib.Core.Bool.{true};
@@ -17,7 +19,7 @@ ghost use Rattle.lambdamix.specs.Script.{Script};
 ghost use Rattle.lambdamix.specs.Code.{lit, node, size, fits, top, nodesFrom, written};
 ghost use Rattle.lambdamix.specs.Specializing.{finished};
 ghost use Rattle.script.specs.File.{nodeBytes, records, numbered, fileBytes};
-ghost use Rattle.script.specs.Written.{Put, inputRow};
+ghost use Rattle.file.specs.Written.{Put, inputRow};
 ghost use Rattle.specializer.specs.Cells.{codeAt};
 ghost use Rattle.specializer.specs.Fields.{codeBelow, partNext};
 ghost use Rattle.specializer.specs.Making.{afterRun};
@@ -129,12 +131,12 @@ fn finish_file(
 pub fn finish(codes: &[u64], p: u16, inputs: &[u16], count: u16, out: &mut [u8]) -> Finish
     ensures { λ r. ⌜ ((s : Script) (k : ℕ) → s .inputs ≡ numbered (inputRow (now (inputs .entry))) 0 count → outcome r k (now (out .exit)) ≡ afterRun s (finished (codeAt (now (codes .entry)) p) k) (now (out .entry))) ⌝ }
 {
-    let room = size::spend(codes, p, 4096, 256);
+    let room = size::spend(codes, p, MAX_NODES, MAX_HEIGHT);
     let Room::Left(left) = room else {
         return Finish::Refused(Refusal {
             number: 26,
             place: 0,
         });
     };
-    finish_file(codes, p, inputs, count, 4096 - left, out)
+    finish_file(codes, p, inputs, count, MAX_NODES - left, out)
 }

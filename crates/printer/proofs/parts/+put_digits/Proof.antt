@@ -33,7 +33,7 @@ put-digits-returns t c = rw (one-digit (c .before .before .before .before .befor
 
 put-digits-add-result : (t : ℕ) → put-digits-lts.Need-add-result (given t) (put-digits-at t) put-digits.Post
 put-digits-add-result t c =
-    omega (arith, c .before .before .before .before .before .before .put-digits .ensures .counted, digits-within 9 (c .before .before .before .before .before .before .before .before .before .before .args .x / 10) (omega (arith, c .before .before .before .before .before .before .before .before .before .before .fits .x)))
+    omega (arith, c .before .before .before .before .before .before .put-digits .ensures .counted, digits-within 19 (c .before .before .before .before .before .before .before .before .before .before .args .x / 10) (omega (arith, c .before .before .before .before .before .before .before .before .before .before .fits .x)))
 
 put-digits-returns-2 : (t : ℕ) → put-digits-lts.Need-returns-2 (given t) (put-digits-at t) put-digits.Post
 put-digits-returns-2 t c =

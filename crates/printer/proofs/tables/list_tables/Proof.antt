@@ -7,10 +7,10 @@ use Rattle.printer.proofs.tables.list_tables.Tie as tie
 
 returns : tie.Need-returns
 returns c =
-    lists-whole (omega (arith, c .before .before .before .before .before .before .before .before .before .before .before .before .before .before .good)) (omega (arith, c .before .before .before .before .before .before .before .whole .kept)) (c .before .before .before .before .before .before .before .whole .ensures) (c .before .before .before .before .if1 .taken) (c .before .before .whole2 .ensures)
+    lists-whole (omega (arith, c .before .before .before .before .before .before .before .before .before .before .before .before .before .before .good)) (omega (arith, c .before .before .before .before .before .before .before .whole .kept)) (c .before .before .before .before .before .before .before .whole .ensures) (omega (arith, c .before .before .before .before .if1 .taken)) (c .before .before .whole2 .ensures)
 
 returns-2 : tie.Need-returns-2
-returns-2 c = lists-nothing (omega (arith, c .before .before .before .before .before .before .before .before .before .before .good)) (omega (arith, c .before .before .before .whole .kept)) (c .before .before .before .whole .ensures) (c .if1 .left)
+returns-2 c = lists-nothing (omega (arith, c .before .before .before .before .before .before .before .before .before .before .good)) (omega (arith, c .before .before .before .whole .kept)) (c .before .before .before .whole .ensures) (omega (arith, c .if1 .left))
 
 pub list-tables-spec : {M : Type 1} → statement M
 list-tables-spec =

@@ -1,5 +1,5 @@
 use mathlib.Core.Path.{refl}
-use Rattle.script.specs.Written.{inputRow}
+use Rattle.file.specs.Written.{inputRow}
 use Rattle.script.specs.Tables.{rowInput, tablesScript}
 use Rattle.annotation.proofs.Joining.{refused-first, passed-first}
 use Rattle.specializer.specs.Entry.{laterRefusal}

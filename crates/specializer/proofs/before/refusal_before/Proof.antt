@@ -5,7 +5,7 @@ use Rattle.specializer.proofs.before.refusal_before.Statement.{statemen
 use Rattle.specializer.proofs.before.refusal_before.Tie as tie
 use Rattle.specializer.proofs.before.refusal_before.Reads as reads
 use Rattle.specializer.proofs.before.refusal_before.Lts as lts
-use Rattle.script.proofs.tables.tables_refusal.Reads as tables-refusal-reads
+use Rattle.file.proofs.tables.tables_refusal.Reads as tables-refusal-reads
 use Rattle.specializer.proofs.before.call_refused.Reads as call-refused-reads
 
 -- src/before.rt:153:11

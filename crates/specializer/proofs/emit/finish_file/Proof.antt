@@ -1,6 +1,6 @@
 -- `specializer::emit::finish_file` meets its contract: each branch knows whether the output is long enough. Assumes nothing.
 use borrow.Author.Needs.{needs}
-use Rattle.script.specs.Written.{inputRow}
+use Rattle.file.specs.Written.{inputRow}
 use Rattle.specializer.specs.Cells.{codeAt}
 use Rattle.specializer.proofs.Finishing.{fits-small, finish-written, finish-short}
 use Rattle.specializer.proofs.emit.finish_file.Statement.{statement}

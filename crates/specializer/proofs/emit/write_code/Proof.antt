@@ -1,7 +1,7 @@
 -- `specializer::emit::write_code` meets its contract: head, inputs and nodes, one behind the other. Assumes nothing.
 use borrow.Author.Needs.{needs}
 use native.Mathlib.Omega.{arith}
-use Rattle.script.specs.Written.{inputRow}
+use Rattle.file.specs.Written.{inputRow}
 use Rattle.specializer.specs.Cells.{codeAt}
 use Rattle.specializer.proofs.Finishing.{top-low, put-written}
 use Rattle.specializer.proofs.emit.write_code.Statement.{statement}

@@ -1,0 +1,170 @@
+-- Demand 3's last part, through the bytes: the written script of a finished run of an accepted file, where 26 does not hold,
+-- is accepted again, by ALL of refusals 1 to 11. Assumes nothing.
+use Prim.Native.Nat.{ℕ, zero, suc, _≤_, _<_}
+use mathlib.Core.Path.{_≡_, refl, sym, subst, subst⁻¹, _∙_}
+use mathlib.Core.Bool.{Bool, true, false, _&&_}
+use mathlib.Core.List.{List, [], _∷_}
+use mathlib.Core.Option.{none}
+use mathlib.Core.Logic.{⊎-elim}
+use native.Mathlib.Omega.{arith}
+use native.Mathlib.Nat.{le-of-lt}
+use lib.IntN.{ℤ, pos}
+use lib.ListN.{length, getD, List·getD-eq-default}
+use lib.Dec.{leb, ltb}
+use borrow.Author.Tests.{leb-true, ltb-true, ltb-false}
+use Rattle.lambdamix.specs.Limits.{maxTypes, maxInputs, maxNodes, maxFuel}
+use Rattle.lambdamix.specs.Script.{Script, Node, blankNode, nodeAt, inputCount}
+use Rattle.lambdamix.specs.Checker.{annotationRefusal}
+use Rattle.lambdamix.specs.Structure.{firstFailing, orElse, structureRefusal}
+use Rattle.lambdamix.specs.Code.{Code, fits, nodesFrom, written}
+use Rattle.lambdamix.specs.Specializing.{specialized, finished}
+use Rattle.lambdamix.specs.Demand.{Accepted}
+use Rattle.lambdamix.proofs.Tests.{and-both, holds-or-fails}
+use Rattle.lambdamix.proofs.Checking.{checker-accepts}
+use Rattle.lambdamix.proofs.Range.{Fits, CodeFits, code-in-range}
+use Rattle.lambdamix.proofs.Suits.{Scoped}
+use Rattle.lambdamix.proofs.Bounds.{names-fit}
+use Rattle.lambdamix.proofs.WellAnnotated.{finished-run, finished-code-scoped}
+use Rattle.lambdamix.proofs.DemandThree.{demand-three}
+use Rattle.script.specs.File.{scriptIn, fileBytes}
+use Rattle.script.specs.Refusals.{inputFits, countsRight, contentOf, contentRefusal, scriptRefusal, fileRefusal, refusedUnless}
+use Rattle.file.specs.Encodable.{AllBytes, Encodable, EncodableNode}
+use Rattle.file.specs.AcceptedFile.{AcceptedFile}
+use Rattle.script.proofs.RefusalLaws.{neither, not-refused, pass-over, no-record, passes}
+use Rattle.file.proofs.FileLaws.{read-written, file-refusal, read-fits, written-read}
+use Rattle.file.proofs.WrittenContent.{Good, sizes-right, each-good, written-counts, written-content}
+
+inputs-few : (t i n : ℕ) → countsRight t i n ≡ true → leb i maxInputs ≡ true
+unfolding countsRight
+inputs-few t i n e =
+    and-both (leb i maxInputs) (leb 1 n && leb n maxNodes)
+    (and-both (leb t maxTypes) (leb i maxInputs && (leb 1 n && leb n maxNodes)) e .1) .0
+
+-- what refusals 3 to 11 that are none say of a script
+module _ (s : Script) (passes-all : scriptRefusal s ≡ none) (annotated : annotationRefusal s ≡ none) where
+  parts-pass :
+      (countsRight (length (s .types)) (length (s .inputs)) (length (s .nodes)) ≡ true)
+      × (contentRefusal s ≡ none)
+      × (structureRefusal s ≡ none)
+  unfolding scriptRefusal
+  parts-pass =
+      let (counts, rest) = neither _ _ passes-all in
+      let (content, structure) = neither _ _ rest in
+      (not-refused _ 3 0 counts, content, structure)
+
+  pub script-accepted : Accepted s
+  script-accepted = record { structured = parts-pass .2; annotated = annotated }
+
+  few-inputs : leb (length (s .inputs)) maxInputs ≡ true
+  few-inputs = inputs-few _ _ _ (parts-pass .0)
+
+  inputs-right : firstFailing (inputFits (λ j. getD (s .inputs) j 0)) 0 (length (s .inputs)) ≡ none
+  unfolding contentRefusal contentOf
+  inputs-right = no-record 4 _ _ (neither _ _ (neither _ _ (parts-pass .1) .1) .0)
+
+-- a written script that passes 3 to 11 and fits the widths of a file passes 1 to 11 through its bytes
+through-bytes :
+    (w : Script) → Encodable w → scriptRefusal w ≡ none → annotationRefusal w ≡ none → AcceptedFile (fileBytes w)
+through-bytes w e r a =
+    record {
+      read = file-refusal w e ∙ r;
+      annotated = subst⁻¹ (λ (s : Script). annotationRefusal s ≡ none) (read-written w e) a;
+    }
+
+module _
+    {N : ℕ}
+    {c : Code}
+    (s : Script)
+    (few : leb (length (s .inputs)) maxInputs ≡ true)
+    (right : firstFailing (inputFits (λ j. getD (s .inputs) j 0)) 0 (length (s .inputs)) ≡ none)
+    (scoped : Scoped s N [] c)
+    (names : N ≤ 65536)
+    (constants : CodeFits c)
+    (fitting : fits c ≡ true)
+  where
+    -- the written script fits the widths of a file
+    written-fits : Encodable (written s c)
+    unfolding written nodeAt maxInputs maxNodes inputFits
+    written-fits =
+        let inputs : length (s .inputs) ≤ 16 = leb-true (length (s .inputs)) maxInputs few in
+        let (small, same) = sizes-right s few right scoped names constants fitting in
+        record {
+          typeCount = omega arith;
+          inputCount = omega arith;
+          nodeCount = omega (arith, small, same);
+          types = λ j l. let z : ⊥ = omega arith in absurd z;
+          inputs =
+              λ j l. omega (arith, leb-true (getD (s .inputs) j 0) 1 (passes (inputFits (λ i. getD (s .inputs) i 0)) (length (s .inputs)) right j l));
+          nodes = λ j l. each-good s few right scoped names constants fitting j l .encodable;
+        }
+
+    written-passes : structureRefusal (written s c) ≡ none → scriptRefusal (written s c) ≡ none
+    unfolding scriptRefusal orElse written
+    written-passes r =
+        pass-over 3 0 (orElse (contentRefusal (written s c)) (structureRefusal (written s c)))
+        (written-counts s few right scoped names constants fitting)
+        ∙ rw (written-content s few right scoped names constants fitting, r)
+
+module _
+    (s : Script)
+    (passes-all : scriptRefusal s ≡ none)
+    (annotated : annotationRefusal s ≡ none)
+    (values : (i : ℕ) → Fits (nodeAt s i .value))
+    (zs : List ℤ)
+    (settings : (i : ℕ) → Fits (getD zs i (pos 0)))
+    (fuel : ℕ)
+    (limit : fuel ≤ maxFuel)
+    (c : Code)
+    (k : ℕ)
+    (ends : specialized s zs fuel ≡ finished c k)
+    (fitting : fits c ≡ true)
+  where
+    -- The code that making a script leaves, for a script past 3 to 11, numbers of 32 bits and fuel within its limit: its written
+    -- script fits the widths of a file and passes 3 to 11.
+    pub written-again : Encodable (written s c) × (scriptRefusal (written s c) ≡ none) × (annotationRefusal (written s c) ≡ none)
+    unfolding inputCount
+    written-again =
+        let (l, y, q) = finished-run s zs fuel ends in
+        let scoped = finished-code-scoped s (checker-accepts s .0 annotated) zs fuel q in
+        let few = few-inputs s passes-all annotated in
+        let right = inputs-right s passes-all annotated in
+        let inputs : inputCount s ≤ maxInputs = leb-true (length (s .inputs)) maxInputs few in
+        let names : y ≤ 65536 = le-of-lt (names-fit s zs fuel inputs limit q) in
+        let constants = code-in-range s zs fuel values settings q in
+        let again = demand-three s (script-accepted s passes-all annotated) zs fuel .accepted-again c k ends fitting in (
+          written-fits s few right scoped names constants fitting,
+          written-passes s few right scoped names constants fitting (again .structured),
+          again .annotated,
+        )
+
+    -- Its file passes ALL of refusals 1 to 11.
+    pub script-accepted-again : AcceptedFile (fileBytes (written s c))
+    script-accepted-again = let (e, r, a) = written-again in through-bytes (written s c) e r a
+
+module _ (bs : List ℕ) (bytes : AllBytes bs) (h : AcceptedFile bs) where
+  script-passes : scriptRefusal (scriptIn bs) ≡ none
+  script-passes = sym (file-refusal (scriptIn bs) (read-fits bs bytes)) ∙ subst⁻¹ (λ b. fileRefusal b ≡ none) (written-read bs bytes (h .read)) (h .read)
+
+  pub accepted : Accepted (scriptIn bs)
+  accepted = script-accepted (scriptIn bs) script-passes (h .annotated)
+
+  values-fit : (i : ℕ) → Fits (nodeAt (scriptIn bs) i .value)
+  unfolding nodeAt
+  values-fit i = ⊎-elim inside outside (holds-or-fails (ltb i (length (scriptIn bs .nodes))))
+    where
+      inside : ltb i (length (scriptIn bs .nodes)) ≡ true → Fits (nodeAt (scriptIn bs) i .value)
+      inside e = record { within = read-fits bs bytes .nodes i (ltb-true _ _ e) .value }
+
+      outside : ltb i (length (scriptIn bs .nodes)) ≡ false → Fits (nodeAt (scriptIn bs) i .value)
+      outside e =
+          subst⁻¹ (λ (d : Node). Fits (d .value)) (List·getD-eq-default (scriptIn bs .nodes) blankNode (ltb-false _ _ e))
+          (record { within = omega arith })
+
+-- Demand 3, last part: "wherever it fits a file, the checker accepts that file again". The file of the code that making an
+-- accepted file leaves passes ALL of refusals 1 to 11, for settings of 32 bits and fuel within its limit.
+pub accepted-again :
+    (bs : List ℕ) → AllBytes bs → AcceptedFile bs → (zs : List ℤ) → ((i : ℕ) → Fits (getD zs i (pos 0))) → (fuel : ℕ) →
+    fuel ≤ maxFuel → (c : Code) (k : ℕ) → specialized (scriptIn bs) zs fuel ≡ finished c k → fits c ≡ true →
+    AcceptedFile (fileBytes (written (scriptIn bs) c))
+accepted-again bs bytes h zs settings fuel limit c k e f =
+    script-accepted-again (scriptIn bs) (script-passes bs bytes h) (h .annotated) (values-fit bs bytes h) zs settings fuel limit c k e f

@@ -1,0 +1,165 @@
+-- Laws of the contents of records: a node by its kind, fields and value, a type record by its parts and pairs, right counts, and all
+-- records by three searches. Assumes nothing.
+use Prim.Native.Nat.{ℕ, zero, suc, _+_, _<_, _≤_}
+use mathlib.Core.Path.{_≡_, refl, sym, ap, _∙_}
+use mathlib.Core.Bool.{Bool, true, false, _&&_, _||_}
+use mathlib.Core.List.{List, [], _∷_}
+use mathlib.Core.Option.{Option, some}
+use native.Mathlib.Omega.{arith}
+use lib.IntN.{ℤ, pos}
+use lib.ListN.{length, getD}
+use lib.Dec.{eqb, leb, lit<}
+use mir.Syntax.{w32}
+use mir.Val.{SFits, ofZ}
+use mir.Facts.{toZ-ofZ}
+use borrow.Author.Tests.{eqb-true, leb-true, lt-ltb, le-ltb, eq-eqb, ne-eqb}
+use Rattle.lambdamix.specs.declared.Use.{Use}
+use Rattle.lambdamix.specs.declared.Use.the-variants.{Nothing}
+use Rattle.lambdamix.specs.Arithmetic.{eqZ}
+use Rattle.lambdamix.specs.Script.{FunctionType, Node, rows, rowOf, fields}
+use Rattle.lambdamix.specs.Limits.{maxTypes, maxInputs, maxNodes}
+use Rattle.lambdamix.specs.Structure.{firstFailing, orElse}
+use Rattle.lambdamix.proofs.Tests.{and-both, or-right}
+use Rattle.lambdamix.proofs.Signed.{held, same-bits}
+use Rattle.script.specs.Kinds.{useOf, usesTable}
+use Rattle.script.specs.Columns.{nodeOf, contentIn}
+use Rattle.script.specs.declared.Found.{Found}
+use Rattle.script.specs.Refusals.{fieldRight, fieldsRight, nodeFits, isNone, otherPair, typeFits, inputFits, countsRight, refusedUnless, refusedRecord, contentOf}
+use Rattle.script.specs.File.{typeOffset, inputOffset, nodeOffset}
+use Rattle.script.specs.Tables.{Tables, rowType, rowInput, rowNode}
+use Rattle.script.specs.Replies.{foundAt}
+use Rattle.script.proofs.TableLaws.{every, row-uses}
+
+and-true : (b : Bool) → (b && true) ≡ b
+and-true true = refl
+and-true false = refl
+
+and-false : (b : Bool) → (b && false) ≡ false
+and-false true = refl
+and-false false = refl
+
+-- a test that passes at each entry passes at each place inside the table
+at-place : {A : Type 0} (p : A → Bool) (d : A) (xs : List A) → every p xs ≡ true → (k : ℕ) → k < length xs → p (getD xs k d) ≡ true
+unfolding every
+at-place p d [] e k h = let z : ⊥ = omega arith in absurd z
+at-place p d (x ∷ xs) e zero h = and-both (p x) (every p xs) e .0
+at-place p d (x ∷ xs) e (suc k) h = at-place p d xs (and-both (p x) (every p xs) e .1) k (omega arith)
+
+three-uses : (k : ℕ) → k < 13 → length (getD usesTable k []) ≡ 3
+unfolding usesTable rows every
+three-uses k h = eqb-true _ 3 (at-place (λ (us : List Use). eqb (length us) 3) [] usesTable refl k h)
+
+-- the tests of three fields, by the uses in their places
+by-three : (t n j : ℕ) (us : List Use) (a b c : ℕ) → length us ≡ 3
+    → fieldsRight t n j us (a ∷ b ∷ c ∷ [])
+    ≡ (fieldRight t n j (getD us 0 Nothing) a && (fieldRight t n j (getD us 1 Nothing) b && fieldRight t n j (getD us 2 Nothing) c))
+unfolding fieldsRight
+by-three t n j [] a b c e = let z : ⊥ = omega arith in absurd z
+by-three t n j (u ∷ []) a b c e = let z : ⊥ = omega arith in absurd z
+by-three t n j (u ∷ v ∷ []) a b c e = let z : ⊥ = omega arith in absurd z
+by-three t n j (u ∷ v ∷ w ∷ []) a b c e = rw (and-true (fieldRight t n j w c))
+by-three t n j (u ∷ v ∷ w ∷ x ∷ us) a b c e = let z : ⊥ = omega arith in absurd z
+
+-- A row's test is the tests of its three fields, as they were answered for the uses that the table told.
+pub row-test : (t n j k a b c : ℕ) → k < 13 → {u v w : Use} {x x′ y y′ z z′ : Bool}
+    → u ≡ useOf k 0 → x ≡ fieldRight t n j u a → x ≡ x′
+    → v ≡ useOf k 1 → y ≡ fieldRight t n j v b → y ≡ y′
+    → w ≡ useOf k 2 → z ≡ fieldRight t n j w c → z ≡ z′
+    → (x′ && (y′ && z′)) ≡ fieldsRight t n j (getD usesTable k []) (a ∷ b ∷ c ∷ [])
+unfolding useOf
+row-test t n j k a b c h p q r p₁ q₁ r₁ p₂ q₂ r₂ = cc (by-three t n j (getD usesTable k []) a b c (three-uses k h))
+
+module _ (t n j k a b c : ℕ) where
+  row-is : (v : ℤ) → fieldsRight t n j (rowOf (nodeOf k a b c v) .uses) (fields (nodeOf k a b c v)) ≡ fieldsRight t n j (getD usesTable k []) (a ∷ b ∷ c ∷ [])
+  unfolding fields
+  row-is v = ap (λ (us : List Use). fieldsRight t n j us (a ∷ b ∷ c ∷ [])) (row-uses (nodeOf k a b c v))
+
+  -- a step that may have its value is right if its fields are
+  pub right-by-fields : (v : ℤ) → k < 13 → (eqb k 0 || eqZ v (pos 0)) ≡ true
+      → fieldsRight t n j (getD usesTable k []) (a ∷ b ∷ c ∷ []) ≡ nodeFits t n (λ j. nodeOf k a b c v) j
+  unfolding nodeFits
+  right-by-fields v h e = simp (lt-ltb k 13 h, e, row-is v, and-true)
+
+  pub wrong-value : (v : ℤ) → (eqb k 0 || eqZ v (pos 0)) ≡ false → false ≡ nodeFits t n (λ j. nodeOf k a b c v) j
+  unfolding nodeFits
+  wrong-value v e = simp (e, and-false)
+
+  pub wrong-kind : (v : ℤ) → 13 ≤ k → false ≡ nodeFits t n (λ j. nodeOf k a b c v) j
+  unfolding nodeFits
+  wrong-kind v h = simp (le-ltb k 13 h)
+
+  -- a value as it is read back from its bits
+  pub held-value : {v : ℤ} → SFits w32 v → nodeFits t n (λ j. nodeOf k a b c (held w32 v)) j ≡ nodeFits t n (λ j. nodeOf k a b c v) j
+  held-value f = ap (λ (z : ℤ). nodeFits t n (λ j. nodeOf k a b c z) j) (toZ-ofZ f)
+
+-- the test of a value by its bits
+zero-bits : {v : ℤ} → SFits w32 v → eqb (ofZ w32 v) 0 ≡ eqZ v (pos 0)
+zero-bits f = same-bits f (record { sfits = lit< tt })
+
+pub value-zero : (k : ℕ) {v : ℤ} → SFits w32 v → ofZ w32 v ≡ 0 → (eqb k 0 || eqZ v (pos 0)) ≡ true
+value-zero k {v} f e = or-right (eqb k 0) (sym (zero-bits f) ∙ eq-eqb _ _ e)
+
+pub value-other : (k : ℕ) {v : ℤ} → 0 < k → SFits w32 v → (ofZ w32 v ≡ 0 → ⊥) → (eqb k 0 || eqZ v (pos 0)) ≡ false
+value-other k h f e = simp (ne-eqb k 0 (λ p. omega arith), ← zero-bits f, ne-eqb _ 0 e)
+
+-- a node as a column's reads tell it
+pub node-read : (t n j : ℕ) (f : ℕ → Node) {k a b c : ℕ} {v : ℤ}
+    → k ≡ f j .kind → a ≡ f j .a → b ≡ f j .b → c ≡ f j .c → v ≡ f j .value
+    → nodeFits t n (λ j. nodeOf k a b c v) j ≡ nodeFits t n f j
+unfolding nodeFits
+node-read t n j f p q r s u = simp (p, q, r, s, u)
+
+-- ---- a type record
+
+module _ (f : ℕ → FunctionType) (j : ℕ) where
+  pub wrong-parameter : 2 + j ≤ f j .parameter → false ≡ typeFits f j
+  unfolding typeFits
+  wrong-parameter h = simp (le-ltb (f j .parameter) (2 + j) h)
+
+  pub wrong-result : 2 + j ≤ f j .result → false ≡ typeFits f j
+  unfolding typeFits
+  wrong-result h = simp (le-ltb (f j .result) (2 + j) h, and-false)
+
+  -- with both parts right, the search for the same pair decides
+  pub right-by-pairs : f j .parameter < 2 + j → f j .result < 2 + j → {r r′ : Found}
+      → foundAt r ≡ firstFailing (otherPair f j) 0 j → r ≡ r′ → isNone (foundAt r′) ≡ typeFits f j
+  unfolding typeFits
+  right-by-pairs h k p q = simp (lt-ltb (f j .parameter) (2 + j) h, lt-ltb (f j .result) (2 + j) k, ← p, q)
+
+-- ---- counts, and all records
+
+-- what right counts say
+pub record InLimits (t i n : ℕ) : Type 0 where
+  pub types : t ≤ 64
+  pub inputs : i ≤ 16
+  pub some-node : 1 ≤ n
+  pub nodes : n ≤ 4096
+
+pub in-limits : (t i n : ℕ) → countsRight t i n ≡ true → InLimits t i n
+unfolding countsRight maxTypes maxInputs maxNodes
+in-limits t i n e =
+    let p = and-both (leb t 64) (leb i 16 && (leb 1 n && leb n 4096)) e in
+    let q = and-both (leb i 16) (leb 1 n && leb n 4096) (p .1) in
+    let r = and-both (leb 1 n) (leb n 4096) (q .1) in
+    record {
+      types = leb-true t 64 (p .0);
+      inputs = leb-true i 16 (q .0);
+      some-node = leb-true 1 n (r .0);
+      nodes = leb-true n 4096 (r .1);
+    }
+
+module _ (t i n : ℕ) (x : Tables) where
+  pub wrong-counts : countsRight t i n ≡ false → some (record { number = 3; place = 0 }) ≡ contentIn t i n x
+  unfolding contentIn refusedUnless orElse
+  wrong-counts e = simp e
+
+  -- with right counts, the first bad record of three searches is refused
+  pub content-by-searches : countsRight t i n ≡ true → {p q r : Option ℕ}
+      → p ≡ firstFailing (typeFits (rowType x)) 0 t
+      → q ≡ firstFailing (inputFits (rowInput x)) 0 i
+      → r ≡ firstFailing (nodeFits t i (rowNode x)) 0 n
+      → orElse (refusedRecord 4 typeOffset p)
+      (orElse (refusedRecord 4 (inputOffset t) q) (refusedRecord 5 (nodeOffset t i) r))
+      ≡ contentIn t i n x
+  unfolding contentIn contentOf refusedUnless orElse
+  content-by-searches e h k l = simp (e, h, k, l)

@@ -1,0 +1,173 @@
+-- Tables that were filled from a file hold the file's script, and a script's tables hold the script. Assumes nothing.
+use Prim.Native.Nat.{ℕ, _+_, _*_, _<_}
+use mathlib.Core.Path.{_≡_, sym, ap, _∙_}
+use mathlib.Core.Bool.{true}
+use mathlib.Core.List.{List, map}
+use native.Mathlib.Omega.{arith}
+use lib.IntN.{ℤ}
+use lib.ListN.{length, getD, drop, length-map, List·getD-append, List·getD-map}
+use lib.Seq.{ext-getD}
+use borrow.Author.Tests.{leb-true}
+use Rattle.lambdamix.specs.Script.{Script, FunctionType, Node, blankNode}
+use Rattle.lambdamix.specs.Types.{blankType}
+use Rattle.lambdamix.proofs.Tests.{and-both}
+use Rattle.script.specs.declared.Counts.{Counts}
+use Rattle.script.specs.Bytes.{byteAt, word16, word32, signed32}
+use Rattle.script.specs.File.{numbered, typeOffset, inputOffset, nodeOffset, typeFrom, inputFrom, nodeFrom, headTypes, headInputs, headNodes, scriptIn}
+use Rattle.script.specs.Tables.{Tables, rowType, rowInput, rowNode, tablesScript, over, filled}
+use Rattle.script.specs.Columns.{tablesOf, enough}
+use Rattle.file.specs.Heads.{headCounts, FillFits}
+use Rattle.file.proofs.Numbered.{length-numbered, row-at, numbered-same, map-numbered}
+
+-- ---- filled tables hold the script that filled them
+
+over-at : {A : Type 0} (xs old : List A) (d : A) (i : ℕ) → i < length xs → getD (over xs old) i d ≡ getD xs i d
+unfolding over
+over-at xs old d i h = List·getD-append xs (drop (length xs) old) d i h
+
+-- a column of things
+column-at : {A B : Type 0} (h : A → B) (xs : List A) (old : List B) (d : A) (i : ℕ) → i < length xs
+    → getD (over (map h xs) old) i (h d) ≡ h (getD xs i d)
+column-at h xs old d i l = over-at (map h xs) old (h d) i (rw (length-map xs h) l) ∙ List·getD-map h xs i d
+
+rows-are : {A : Type 0} (f : ℕ → A) (d : A) (xs : List A) → ((i : ℕ) → i < length xs → f i ≡ getD xs i d) → numbered f 0 (length xs) ≡ xs
+rows-are f d xs h =
+    ext-getD d _ xs (length-numbered f 0 (length xs)) (λ i l. let k : i < length xs = rw (length-numbered f 0 (length xs)) at l in row-at f (length xs) d i k ∙ h i k)
+
+module _ (s : Script) (x : Tables) where
+  type-row : (i : ℕ) → i < length (s .types) → rowType (filled s x) i ≡ getD (s .types) i blankType
+  unfolding rowType filled
+  type-row i l =
+      λ k.
+      record {
+        parameter = column-at (λ (t : FunctionType). t .parameter) (s .types) (x .parameters) blankType i l k;
+        result = column-at (λ (t : FunctionType). t .result) (s .types) (x .results) blankType i l k;
+      }
+
+  input-row : (i : ℕ) → i < length (s .inputs) → rowInput (filled s x) i ≡ getD (s .inputs) i 0
+  unfolding rowInput filled
+  input-row i l = over-at (s .inputs) (x .inputs) 0 i l
+
+  node-row : (i : ℕ) → i < length (s .nodes) → rowNode (filled s x) i ≡ getD (s .nodes) i blankNode
+  unfolding rowNode filled
+  node-row i l =
+      λ k.
+      record {
+        kind = column-at (λ (d : Node). d .kind) (s .nodes) (x .kinds) blankNode i l k;
+        a = column-at (λ (d : Node). d .a) (s .nodes) (x .a) blankNode i l k;
+        b = column-at (λ (d : Node). d .b) (s .nodes) (x .b) blankNode i l k;
+        c = column-at (λ (d : Node). d .c) (s .nodes) (x .c) blankNode i l k;
+        value = column-at (λ (d : Node). d .value) (s .nodes) (x .values) blankNode i l k;
+      }
+
+  -- Tables filled with a script hold it, whatever they held before.
+  pub script-held : tablesScript (length (s .types)) (length (s .inputs)) (length (s .nodes)) (filled s x) ≡ s
+  unfolding tablesScript
+  script-held =
+      λ k.
+      record {
+        types = rows-are (rowType (filled s x)) blankType (s .types) type-row k;
+        inputs = rows-are (rowInput (filled s x)) 0 (s .inputs) input-row k;
+        nodes = rows-are (rowNode (filled s x)) blankNode (s .nodes) node-row k;
+      }
+
+-- Tables filled from a file hold the file's script.
+pub file-held : (bs : List ℕ) (x : Tables) → tablesScript (headTypes bs) (headInputs bs) (headNodes bs) (filled (scriptIn bs) x) ≡ scriptIn bs
+unfolding scriptIn
+file-held bs x =
+    rw (
+      length-numbered (λ j. typeFrom bs (typeOffset j)) 0 (headTypes bs),
+      length-numbered (λ j. inputFrom bs (inputOffset (headTypes bs) j)) 0 (headInputs bs),
+      length-numbered (λ j. nodeFrom bs (nodeOffset (headTypes bs) (headInputs bs) j)) 0 (headNodes bs),
+    ) at
+    (script-held (scriptIn bs) x)
+
+-- ---- eight columns, each filled from a file, are the tables filled with its script
+
+column-filled : {A B : Type 0} (h : A → B) (f : ℕ → A) (g : ℕ → B) (n m : ℕ) (old : List B) {now : List B}
+    → n ≡ m → ((j : ℕ) → g j ≡ h (f j)) → now ≡ over (numbered g 0 n) old → now ≡ over (map h (numbered f 0 m)) old
+column-filled {B = B} h f g n m old e k p =
+    p ∙ ap (λ (xs : List B). over xs old) (ap (numbered g 0) e ∙ numbered-same g (λ i. h (f i)) 0 m (λ i l. k i) ∙ sym (map-numbered h f 0 m))
+
+inputs-filled : (f g : ℕ → ℕ) (n m : ℕ) (old : List ℕ) {now : List ℕ}
+    → n ≡ m → ((j : ℕ) → g j ≡ f j) → now ≡ over (numbered g 0 n) old → now ≡ over (numbered f 0 m) old
+inputs-filled f g n m old e k p =
+    p ∙ ap (λ (xs : List ℕ). over xs old) (ap (numbered g 0) e ∙ numbered-same g f 0 m (λ i l. k i))
+
+module _ (bs : List ℕ) {n : Counts} (e : n ≡ headCounts bs) (x : Tables) where
+  types-are : n .types ≡ headTypes bs
+  unfolding headCounts
+  types-are = ap (λ (m : Counts). m .types) e
+
+  inputs-are : n .inputs ≡ headInputs bs
+  unfolding headCounts
+  inputs-are = ap (λ (m : Counts). m .inputs) e
+
+  nodes-are : n .nodes ≡ headNodes bs
+  unfolding headCounts
+  nodes-are = ap (λ (m : Counts). m .nodes) e
+
+  type-place : (f j c : ℕ) → f ≡ typeOffset 0 → f + 6 * j + c ≡ typeOffset j + c
+  unfolding typeOffset
+  type-place f j c p = omega arith
+
+  input-place : (f j : ℕ) → f ≡ inputOffset (n .types) 0 → f + 4 * j + 2 ≡ inputOffset (headTypes bs) j + 2
+  unfolding inputOffset
+  input-place f j p = omega (arith, types-are)
+
+  node-place : (f j c : ℕ) → f ≡ nodeOffset (n .types) (n .inputs) 0 → f + 13 * j + c ≡ nodeOffset (headTypes bs) (headInputs bs) j + c
+  unfolding nodeOffset
+  node-place f j c p = omega (arith, types-are, inputs-are)
+
+  pub tables-filled : (f g h : ℕ) → f ≡ typeOffset 0 → g ≡ inputOffset (n .types) 0 → h ≡ nodeOffset (n .types) (n .inputs) 0
+      → {ps rs is ks xs ys zs : List ℕ} {vs : List ℤ}
+      → ps ≡ over (numbered (λ j. word16 bs (f + 6 * j + 2)) 0 (n .types)) (x .parameters)
+      → rs ≡ over (numbered (λ j. word16 bs (f + 6 * j + 4)) 0 (n .types)) (x .results)
+      → is ≡ over (numbered (λ j. word16 bs (g + 4 * j + 2)) 0 (n .inputs)) (x .inputs)
+      → ks ≡ over (numbered (λ j. byteAt bs (h + 13 * j + 2)) 0 (n .nodes)) (x .kinds)
+      → xs ≡ over (numbered (λ j. word16 bs (h + 13 * j + 3)) 0 (n .nodes)) (x .a)
+      → ys ≡ over (numbered (λ j. word16 bs (h + 13 * j + 5)) 0 (n .nodes)) (x .b)
+      → zs ≡ over (numbered (λ j. word16 bs (h + 13 * j + 7)) 0 (n .nodes)) (x .c)
+      → vs ≡ over (numbered (λ j. signed32 (word32 bs (h + 13 * j + 9))) 0 (n .nodes)) (x .values)
+      → tablesOf ps rs is ks xs ys zs vs ≡ filled (scriptIn bs) x
+  unfolding filled scriptIn typeFrom inputFrom nodeFrom
+  tables-filled f g h u v w p q r s a b c d =
+      let types : ℕ → FunctionType = λ j. typeFrom bs (typeOffset j) in
+      let nodes : ℕ → Node = λ j. nodeFrom bs (nodeOffset (headTypes bs) (headInputs bs) j) in
+      λ i.
+      tablesOf
+      (column-filled (λ (t : FunctionType). t .parameter) types _ _ _ (x .parameters) types-are (λ j. ap (word16 bs) (type-place f j 2 u)) p i)
+      (column-filled (λ (t : FunctionType). t .result) types _ _ _ (x .results) types-are (λ j. ap (word16 bs) (type-place f j 4 u)) q i)
+      (inputs-filled (λ j. inputFrom bs (inputOffset (headTypes bs) j)) _ _ _ (x .inputs) inputs-are (λ j. ap (word16 bs) (input-place g j v)) r i)
+      (column-filled (λ (y : Node). y .kind) nodes _ _ _ (x .kinds) nodes-are (λ j. ap (byteAt bs) (node-place h j 2 w)) s i)
+      (column-filled (λ (y : Node). y .a) nodes _ _ _ (x .a) nodes-are (λ j. ap (word16 bs) (node-place h j 3 w)) a i)
+      (column-filled (λ (y : Node). y .b) nodes _ _ _ (x .b) nodes-are (λ j. ap (word16 bs) (node-place h j 5 w)) b i)
+      (column-filled (λ (y : Node). y .c) nodes _ _ _ (x .c) nodes-are (λ j. ap (word16 bs) (node-place h j 7 w)) c i)
+      (column-filled (λ (y : Node). y .value) nodes _ _ _ (x .values) nodes-are (λ j. ap (λ (k : ℕ). signed32 (word32 bs k)) (node-place h j 9 w)) d i)
+
+  -- tables that are long enough can be filled
+  pub fill-fits :
+      enough (n .types) (n .inputs) (n .nodes) (length (x .parameters)) (length (x .results)) (length (x .inputs)) (length (x .kinds))
+      (length (x .a)) (length (x .b)) (length (x .c)) (length (x .values))
+      ≡ true
+      → FillFits bs n x
+  unfolding enough
+  fill-fits h =
+      let p = and-both _ _ h in
+      let t = and-both _ _ (p .0) in
+      let q = and-both _ _ (p .1) in
+      let r = and-both _ _ (q .1) in
+      let k = and-both _ _ (r .0) in
+      let b = and-both _ _ (r .1) in
+      let c = and-both _ _ (b .1) in
+      record {
+        counts = e;
+        parameters = leb-true _ _ (t .0);
+        results = leb-true _ _ (t .1);
+        inputs = leb-true _ _ (q .0);
+        kinds = leb-true _ _ (k .0);
+        a = leb-true _ _ (k .1);
+        b = leb-true _ _ (b .0);
+        c = leb-true _ _ (c .0);
+        values = leb-true _ _ (c .1);
+      }

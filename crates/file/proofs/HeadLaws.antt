@@ -1,0 +1,47 @@
+-- Laws of a file's head: its refusal by its four tests. Assumes nothing.
+use Prim.Native.Nat.{ℕ}
+use mathlib.Core.Path.{_≡_, refl, sym, ap, _∙_}
+use mathlib.Core.Bool.{Bool}
+use mathlib.Core.List.{List}
+use mathlib.Core.Option.{Option, none, some}
+use lib.ListN.{length}
+use lib.Dec.{leb, eqb}
+use Rattle.lambdamix.specs.Structure.{orElse}
+use Rattle.script.specs.declared.Counts.{Counts}
+use Rattle.script.specs.File.{fileLength, nodeOffset, headTypes, headInputs, headNodes}
+use Rattle.script.specs.Refusals.{countsRight, headMarked, refusedUnless, bodyRefusal, fileRefusal}
+use Rattle.file.specs.Heads.{headCounts, headRefusal}
+
+regroup : {A : Type 0} (a b c d e : Option A)
+    → orElse a (orElse b (orElse c (orElse d e))) ≡ orElse (orElse a (orElse b (orElse c d))) e
+unfolding orElse
+regroup none none none d e = refl
+regroup none none (some c) d e = refl
+regroup none (some b) c d e = refl
+regroup (some a) b c d e = refl
+
+module _ (bs : List ℕ) where
+  pub head-by-tests : {a b c d : Bool} → leb 8 (length bs) ≡ a → headMarked bs 0 ≡ b
+      → countsRight (headTypes bs) (headInputs bs) (headNodes bs) ≡ c
+      → eqb (length bs) (fileLength (headTypes bs) (headInputs bs) (headNodes bs)) ≡ d
+      → orElse (refusedUnless a 1 (length bs)) (orElse (refusedUnless b 2 0) (orElse (refusedUnless c 3 0) (refusedUnless d 1 (length bs))))
+      ≡ headRefusal bs
+  unfolding headRefusal
+  head-by-tests p q r s = rw (p, q, r, s)
+
+  module _ {n : Counts} (e : n ≡ headCounts bs) where
+    pub counts-told : {x b : Bool} → x ≡ countsRight (n .types) (n .inputs) (n .nodes) → x ≡ b
+        → countsRight (headTypes bs) (headInputs bs) (headNodes bs) ≡ b
+    unfolding headCounts
+    counts-told p q = ap (λ (m : Counts). countsRight (m .types) (m .inputs) (m .nodes)) (sym e) ∙ sym p ∙ q
+
+    pub length-told : {o : ℕ} → o ≡ nodeOffset (n .types) (n .inputs) (n .nodes) → o ≡ fileLength (headTypes bs) (headInputs bs) (headNodes bs)
+    unfolding headCounts fileLength
+    length-told p = p ∙ ap (λ (m : Counts). nodeOffset (m .types) (m .inputs) (m .nodes)) e
+
+  -- The head's refusals come first.
+  pub file-by-head : fileRefusal bs ≡ orElse (headRefusal bs) (bodyRefusal bs)
+  unfolding fileRefusal headRefusal
+  file-by-head =
+      regroup (refusedUnless (leb 8 (length bs)) 1 (length bs)) (refusedUnless (headMarked bs 0) 2 0)
+      (refusedUnless (countsRight (headTypes bs) (headInputs bs) (headNodes bs)) 3 0) _ (bodyRefusal bs)

@@ -1,0 +1,133 @@
+-- The script that tables hold has the tables' rows, so the contents of either are refused alike; and where nothing of the contents
+-- is refused, every node is right. Assumes nothing.
+use Prim.Native.Nat.{ℕ, _<_, _≤_}
+use mathlib.Core.Path.{_≡_, refl, sym, ap, ap₂, _∙_}
+use mathlib.Core.Bool.{Bool, true, false, not}
+use mathlib.Core.List.{List}
+use mathlib.Core.Option.{Option, none, some}
+use lib.IntN.{ℤ}
+use native.Mathlib.Omega.{arith}
+use Rattle.lambdamix.specs.Script.{FunctionType, Node, blankNode, nodeAt}
+use Rattle.lambdamix.specs.Types.{blankType}
+use Rattle.lambdamix.specs.Limits.{maxNodes}
+use Rattle.lambdamix.specs.Structure.{orElse, structureRefusal}
+use Rattle.lambdamix.specs.Checker.{Refusal}
+use Rattle.script.specs.File.{nodeOffset}
+use Rattle.script.specs.Refusals.{typeFits, inputFits, nodeFits, otherPair, samePair, refusedRecord, countsRight, refusedUnless, contentOf, contentRefusal, scriptRefusal}
+use Rattle.script.specs.Tables.{Tables, rowType, rowInput, rowNode, tablesScript}
+use Rattle.script.specs.Columns.{tablesOf, contentIn}
+use Rattle.script.specs.Walks.{Structured}
+use Rattle.script.specs.Replies.{refusalOf}
+use Rattle.script.specs.declared.Refusal as Refused
+use Rattle.script.specs.declared.Verdict.{Verdict}
+use Rattle.script.specs.declared.Verdict.the-variants as Verdict
+use Rattle.file.proofs.ContentLaws.{in-limits}
+use Rattle.file.proofs.Numbered.{length-numbered, row-at}
+use Rattle.file.proofs.Searching.{failing-same, all-pass}
+
+-- records that are the same up to record j pass its test alike
+type-same : (f g : ℕ → FunctionType) (j : ℕ) → ((i : ℕ) → i ≤ j → f i ≡ g i) → typeFits f j ≡ typeFits g j
+unfolding typeFits otherPair
+type-same f g j h =
+    rw (failing-same (otherPair f j) (otherPair g j) 0 j (λ i k. other i (omega arith)), h j (omega arith))
+  where
+    other : (i : ℕ) → i ≤ j → otherPair f j i ≡ otherPair g j i
+    other i k = ap₂ (λ (t u : FunctionType). not (samePair t u)) (h i k) (h j (omega arith))
+
+input-same : (f g : ℕ → ℕ) (j : ℕ) → f j ≡ g j → inputFits f j ≡ inputFits g j
+unfolding inputFits
+input-same f g j e = rw e
+
+node-same : (t n : ℕ) (f g : ℕ → Node) (j : ℕ) → f j ≡ g j → nodeFits t n f j ≡ nodeFits t n g j
+unfolding nodeFits
+node-same t n f g j e = rw e
+
+-- rows that are the same below the counts are refused alike
+content-same : (t i n : ℕ) (f g : ℕ → FunctionType) (h k : ℕ → ℕ) (u v : ℕ → Node)
+    → ((j : ℕ) → j < t → f j ≡ g j) → ((j : ℕ) → j < i → h j ≡ k j) → ((j : ℕ) → j < n → u j ≡ v j)
+    → contentOf t i n f h u ≡ contentOf t i n g k v
+unfolding contentOf
+content-same t i n f g h k u v p q r =
+    rw (
+      failing-same (typeFits f) (typeFits g) 0 t (λ j l. type-same f g j (λ m o. p m (omega arith))),
+      failing-same (inputFits h) (inputFits k) 0 i (λ j l. input-same h k j (q j (omega arith))),
+      failing-same (nodeFits t i u) (nodeFits t i v) 0 n (λ j l. node-same t i u v j (r j (omega arith))),
+    )
+
+or-assoc : {A : Type 0} (a b c : Option A) → orElse a (orElse b c) ≡ orElse (orElse a b) c
+unfolding orElse
+or-assoc none b c = refl
+or-assoc (some a) b c = refl
+
+module _ (t i n : ℕ) (x : Tables) where
+  -- The contents of a tables' script are refused as the rows of the tables are.
+  pub content-of-tables : contentRefusal (tablesScript t i n x) ≡ contentOf t i n (rowType x) (rowInput x) (rowNode x)
+  unfolding contentRefusal tablesScript nodeAt
+  content-of-tables =
+      rw (length-numbered (rowType x) 0 t, length-numbered (rowInput x) 0 i, length-numbered (rowNode x) 0 n)
+      (content-same t i n _ _ _ _ _ _ (row-at (rowType x) t blankType) (row-at (rowInput x) i 0) (row-at (rowNode x) n blankNode))
+
+  -- Refusals 3 to 8 of a tables' script: 3 to 5 of the rows, then 6 to 8.
+  pub script-of-tables : scriptRefusal (tablesScript t i n x) ≡ orElse (contentIn t i n x) (structureRefusal (tablesScript t i n x))
+  unfolding scriptRefusal contentIn tablesScript
+  script-of-tables =
+      rw (
+        content-of-tables,
+        length-numbered (rowType x) 0 t,
+        length-numbered (rowInput x) 0 i,
+        length-numbered (rowNode x) 0 n,
+      )
+      (or-assoc (refusedUnless (countsRight t i n) 3 0) (contentOf t i n (rowType x) (rowInput x) (rowNode x)) _)
+
+-- of three answers in a row, none at all says that the last is none
+last-none : {A : Type 0} (a b c : Option A) → orElse a (orElse b c) ≡ none → c ≡ none
+unfolding orElse
+last-none none none c e = e
+last-none none (some b) c e = let z : _≡_ {A = ℕ} 0 1 = cc in let w : ⊥ = omega arith in absurd w
+last-none (some a) b c e = let z : _≡_ {A = ℕ} 0 1 = cc in let w : ⊥ = omega arith in absurd w
+
+none-found : (k : ℕ) (o : ℕ → ℕ) (r : Option ℕ) → refusedRecord k o r ≡ none → r ≡ none
+unfolding refusedRecord
+none-found k o none e = refl
+none-found k o (some j) e = let z : _≡_ {A = ℕ} 0 1 = cc in let w : ⊥ = omega arith in absurd w
+
+-- Where the contents are not refused, every node is right.
+pub nodes-right : (t i n : ℕ) (f : ℕ → FunctionType) (g : ℕ → ℕ) (h : ℕ → Node) → contentOf t i n f g h ≡ none
+    → (j : ℕ) → j < n → nodeFits t i h j ≡ true
+unfolding contentOf
+nodes-right t i n f g h e j l =
+    all-pass (nodeFits t i h) 0 n (none-found 5 (nodeOffset t i) _ (last-none _ _ _ e)) j (omega arith) (omega arith)
+
+-- with nothing of 3, 4 and 5 the counts are right, and so are the contents
+content-passes : (t i n : ℕ) (x : Tables) → contentIn t i n x ≡ none
+    → (countsRight t i n ≡ true) × (contentOf t i n (rowType x) (rowInput x) (rowNode x) ≡ none)
+unfolding contentIn refusedUnless orElse
+content-passes t i n x e = by (countsRight t i n) (contentOf t i n (rowType x) (rowInput x) (rowNode x)) e
+  where
+    by : (b : Bool) (r : Option Refusal) → orElse (refusedUnless b 3 0) r ≡ none → (b ≡ true) × (r ≡ none)
+    by true r f = (refl, f)
+    by false r f = let z : _≡_ {A = ℕ} 0 1 = cc in let w : ⊥ = omega arith in absurd w
+
+module _ (t i n : ℕ) (ps rs is ks xs ys zs : List ℕ) (vs : List ℤ) where
+  abbrev columns : Tables
+  columns = tablesOf ps rs is ks xs ys zs vs
+
+  -- After the contents the check of structure gives 6, 7 and 8.
+  pub structure-after : contentIn t i n columns ≡ none → (r : Verdict) → Structured ks xs ys zs i n r
+      → refusalOf r ≡ structureRefusal (tablesScript t i n columns)
+  unfolding maxNodes
+  structure-after e r m =
+      let p = content-passes t i n columns e in
+      let l = in-limits t i n (p .0) in
+      m .refusal t ps rs is vs (l .some-node) (l .nodes)
+      (nodes-right t i n (rowType columns) (rowInput columns) (rowNode columns) (p .1))
+
+  pub refused-by-content : {v : Verdict} {f : Refused.Refusal} → refusalOf v ≡ contentIn t i n columns → v ≡ Verdict.Refused f
+      → refusalOf (Verdict.Refused f) ≡ scriptRefusal (tablesScript t i n columns)
+  unfolding refusalOf orElse
+  refused-by-content {v} {f} p q = rw (script-of-tables t i n columns, ← p, q)
+
+  pub refused-by-structure : (r : Verdict) {v : Verdict} → refusalOf v ≡ contentIn t i n columns → v ≡ Verdict.Passed
+      → Structured ks xs ys zs i n r → refusalOf r ≡ scriptRefusal (tablesScript t i n columns)
+  unfolding refusalOf orElse
+  refused-by-structure r p q m = rw (script-of-tables t i n columns, ← p, q) (structure-after (sym p ∙ ap refusalOf q) r m)

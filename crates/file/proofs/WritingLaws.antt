@@ -1,0 +1,135 @@
+-- Stores in a row: bytes set from a place on, one part after the other, and records one after the other; past the end they
+-- change nothing. Assumes nothing.
+use Prim.Native.Nat.{ℕ, zero, suc, _+_, _*_, _/_, _%_, _≤_, _<_}
+use mathlib.Core.Path.{_≡_, refl, sym, ap, _∙_, subst}
+use mathlib.Core.List.{List, [], _∷_, _++_, append-assoc, append-nil}
+use native.Mathlib.Nat.{zero-add}
+use native.Mathlib.Numerals.{add-one}
+use native.Mathlib.Omega.{arith}
+use lib.ListN.{length, drop, set, length-set}
+use lib.Seq.{sets, sets-eq, set-out, length-sets}
+use Rattle.script.specs.Bytes.{bytes16, bytes32}
+use Rattle.script.specs.File.{records, numbered}
+use Rattle.script.specs.Tables.{over}
+use Rattle.file.specs.Written.{Put}
+use Rattle.file.proofs.RecordLaws.{Layout, records-length, numbered-length}
+
+-- ---- bytes
+
+sets-out : (vs l : List ℕ) (i : ℕ) → length l ≤ i → sets l i vs ≡ l
+sets-out [] l i h = refl
+sets-out (v ∷ vs) l i h =
+    sets-out vs (set l i v) (suc i) (omega (arith, length-set l i v)) ∙ set-out l i v h
+
+sets-append : (vs ws l : List ℕ) (i : ℕ) → sets l i (vs ++ ws) ≡ sets (sets l i vs) (i + length vs) ws
+sets-append [] ws l i = ap (λ (n : ℕ). sets l n ws) (omega arith)
+sets-append (v ∷ vs) ws l i =
+    sets-append vs ws (set l i v) (suc i) ∙ ap (λ (n : ℕ). sets (sets (set l i v) (suc i) vs) n ws) (omega arith)
+
+-- past the end
+pub put-out : {l : List ℕ} {i : ℕ} (vs : List ℕ) → length l ≤ i → Put l i vs l
+put-out vs h = record { puts = sym (sets-out vs _ _ h) }
+
+-- one part, then the next behind it
+pub put-both :
+    {l k m vs ws : List ℕ} {i j : ℕ} → Put l i vs k → j ≡ i + length vs → Put k j ws m → Put l i (vs ++ ws) m
+put-both {l} {k} {m} {vs} {ws} {i} p e q =
+    record { puts = q .puts ∙ (λ x. sets (p .puts x) (e x) ws) ∙ sym (sets-append vs ws l i) }
+
+-- from the first place on, with room for all
+pub put-over : {vs l m : List ℕ} → Put l 0 vs m → length vs ≤ length l → m ≡ over vs l
+unfolding over
+put-over {vs} {l} p h =
+    let e : 0 + length vs ≡ length vs = omega arith in
+    p .puts ∙ sets-eq vs l 0 (omega arith) ∙ ap (λ (n : ℕ). vs ++ drop n l) e
+
+-- ---- a number of 32 bits, in two halves
+
+halves : (w : ℕ) → bytes32 w ≡ bytes16 (w % 65536) ++ bytes16 (w / 65536)
+unfolding bytes32 bytes16
+halves w = λ x. first x ∷ second x ∷ w / 65536 % 256 ∷ fourth x ∷ []
+  where
+    first : w % 256 ≡ w % 65536 % 256
+    first = omega arith
+
+    second : w / 256 % 256 ≡ w % 65536 / 256 % 256
+    second = omega arith
+
+    fourth : w / 16777216 % 256 ≡ w / 65536 / 256 % 256
+    fourth = ap (λ (n : ℕ). n % 256) (omega arith)
+
+pub put-value :
+    {l k m : List ℕ} {i v w : ℕ} → w ≡ v → Put l i (bytes16 (w % 65536)) k → Put k (i + 2) (bytes16 (w / 65536)) m
+    → Put l i (bytes32 v) m
+unfolding bytes16
+put-value {w = w} e p q = rw (← e, halves w) (put-both p refl q)
+
+-- ---- records
+
+pub records-append :
+    {A : Type 0} (f : A → List ℕ) (xs ys : List A) → records f (xs ++ ys) ≡ records f xs ++ records f ys
+unfolding records
+records-append f [] ys = refl
+records-append f (x ∷ xs) ys =
+    ap (λ (r : List ℕ). f x ++ r) (records-append f xs ys) ∙ sym (append-assoc (f x) (records f xs) (records f ys))
+
+numbered-one-more : {A : Type 0} (g : ℕ → A) (i n : ℕ) → numbered g i (suc n) ≡ numbered g i n ++ (g (i + n) ∷ [])
+unfolding numbered
+numbered-one-more g i zero = ap (λ (k : ℕ). g k ∷ []) (omega arith)
+numbered-one-more {A} g i (suc n) =
+    ap {B = List A} (λ r. g i ∷ r)
+    (numbered-one-more g (suc i) n ∙ ap (λ (k : ℕ). numbered g (suc i) n ++ (g k ∷ [])) (omega arith))
+
+records-one-more :
+    {A : Type 0} (f : A → List ℕ) (g : ℕ → A) (j : ℕ)
+    → records f (numbered g 0 (j + 1)) ≡ records f (numbered g 0 j) ++ f (g j)
+unfolding records
+records-one-more f g j =
+    rw (add-one j, numbered-one-more g 0 j, records-append f (numbered g 0 j) (g (0 + j) ∷ []), append-nil (f (g (0 + j))), zero-add j)
+
+-- the records of the first j things stand from o on; the next is set behind them
+put-record :
+    {A : Type 0} (L : Layout A) (g : ℕ → A) (o j : ℕ) {l k m : List ℕ} → Put l o (records (L .write) (numbered g 0 j)) k
+    → Put k (o + L .size * j) (L .write (g j)) m → Put l o (records (L .write) (numbered g 0 (j + 1))) m
+put-record L g o j p q =
+    let e : L .size * j ≡ length (records (L .write) (numbered g 0 j)) =
+    sym (records-length L (numbered g 0 j) ∙ ap (λ (n : ℕ). L .size * n) (numbered-length g 0 j)) in
+    rw (records-one-more (L .write) g j) (put-both p (ap (λ (n : ℕ). o + n) e) q)
+
+-- ---- a loop that puts records from o on: after j of n
+
+pub record Progress {A : Type 0} (L : Layout A) (g : ℕ → A) (o n : ℕ) (before after : List ℕ) (j : ℕ) : Type 0 where
+  pub bound : j ≤ n
+  -- the counts have 16 bits, so no place wraps
+  pub few : n < 65536
+  pub low : o < 1000000
+  pub kept : length after ≡ length before
+  pub put : Put before o (records (L .write) (numbered g 0 j)) after
+
+put-length : {l m vs : List ℕ} {i : ℕ} → Put l i vs m → length m ≡ length l
+put-length {l} {m} {vs} {i} p = ap length (p .puts) ∙ length-sets l i vs
+
+-- bytes that are equal may stand for each other
+pub put-same : {l m vs ws : List ℕ} {i : ℕ} → vs ≡ ws → Put l i vs m → Put l i ws m
+put-same {l} {m} {vs} {ws} {i} e p = subst (λ (bs : List ℕ). Put l i bs m) e p
+
+module _ {A : Type 0} {L : Layout A} {g : ℕ → A} {o n : ℕ} {before : List ℕ} where
+  pub progress-none : n < 65536 → o < 1000000 → Progress L g o n before before 0
+  unfolding records numbered
+  progress-none f l = record { bound = omega arith; few = f; low = l; kept = refl; put = record { puts = refl } }
+
+  pub progress-more :
+      {after m : List ℕ} {j : ℕ} → Progress L g o n before after j → j < n → Put after (o + L .size * j) (L .write (g j)) m
+      → Progress L g o n before m (j + 1)
+  progress-more {after} {m} {j} p l q =
+      record {
+        bound = omega arith;
+        few = p .few;
+        low = p .low;
+        kept = put-length q ∙ p .kept;
+        put = put-record L g o j (p .put) q;
+      }
+
+  pub progress-all :
+      {after : List ℕ} {j : ℕ} → Progress L g o n before after j → n ≤ j → Put before o (records (L .write) (numbered g 0 n)) after
+  progress-all {j = j} p l = let e : j ≡ n = omega (arith, p .bound) in rw (← e) (p .put)

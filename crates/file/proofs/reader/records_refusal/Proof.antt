@@ -1,0 +1,31 @@
+-- `file::reader::records_refusal` meets its contract: the earlier of a wrong mark and a bad record, then the structure.
+-- Assumes nothing.
+use borrow.Author.Needs.{needs}
+use Rattle.file.proofs.ReaderLaws.{records-refused, records-by-structure}
+use Rattle.file.proofs.reader.records_refusal.Statement.{statement}
+use Rattle.file.proofs.reader.records_refusal.Tie as tie
+
+returns : tie.Need-returns
+returns c =
+    records-refused _ _ _ _ _ _ _ _ _ _ (c .before .before .before .before .before .mark-refusal .ensures) (c .before .before .before .before .content-refusal .ensures) (c .before .before .before .earlier .ensures) (c .before .f .given .1)
+
+returns-2 : tie.Need-returns-2
+returns-2 c =
+    records-by-structure _ _ _ _ _ _ _ _ _ _ (c .before .before .before .before .before .mark-refusal .ensures) (c .before .before .before .before .content-refusal .ensures) (c .before .before .before .earlier .ensures) _
+    (c .before .enum-told .given .1) (c .structure-refusal .ensures)
+
+pub records-refusal-spec : {M : Type 1} → statement M
+records-refusal-spec =
+    tie.close
+    (tie.spec
+    (λ c. search needs)
+    (λ c. search needs)
+    (λ c. search needs)
+    (λ c κs. search needs)
+    (λ c κs. tt)
+    (λ c κs. tt)
+    (λ c. search needs)
+    (λ c. search needs)
+    (λ c κs. tt)
+    returns
+    returns-2)

@@ -1,0 +1,23 @@
+-- `file::tables::script_refusal` meets its contract: contents, then structure. Assumes nothing.
+use borrow.Author.Needs.{needs}
+use Rattle.file.proofs.ScriptLaws.{refused-by-content, refused-by-structure}
+use Rattle.file.proofs.tables.script_refusal.Statement.{statement}
+use Rattle.file.proofs.tables.script_refusal.Tie as tie
+
+returns : tie.Need-returns
+returns c = refused-by-content _ _ _ _ _ _ _ _ _ _ _ (c .before .before .before .content-refusal .ensures) (c .before .f .given .1)
+
+returns-2 : tie.Need-returns-2
+returns-2 c =
+    refused-by-structure _ _ _ _ _ _ _ _ _ _ _ _ (c .before .before .before .content-refusal .ensures) (c .before .enum-told .given .1) (c .structure-refusal .ensures)
+
+pub script-refusal-spec : {M : Type 1} → statement M
+script-refusal-spec =
+    tie.close
+    (tie.spec
+    (λ c κs. tt)
+    (λ c. search needs)
+    (λ c. search needs)
+    (λ c κs. tt)
+    returns
+    returns-2)

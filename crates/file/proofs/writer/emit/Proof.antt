@@ -1,0 +1,22 @@
+-- `file::writer::emit` meets its contract: part after part. Assumes nothing.
+use borrow.Author.Needs.{needs}
+use Rattle.script.specs.Tables.{rowType, rowInput, rowNode}
+use Rattle.file.specs.Written.{typeRow, inputRow, nodeRow}
+use Rattle.file.proofs.WriterLaws.{put-file}
+use Rattle.file.proofs.writer.emit.Statement.{statement}
+use Rattle.file.proofs.writer.emit.Tie as tie
+
+returns : tie.Need-returns
+unfolding rowType rowInput rowNode typeRow inputRow nodeRow
+returns c = put-file _ _ _ _ (c .before .before .before .before .before .before .before .before .before .before .before .before .before .before .head-at .ensures) (c .before .before .before .before .before .before .before .before .before .before .types-at .ensures) (c .before .before .before .before .before .before .inputs-at .ensures) (c .before .before .nodes-at .ensures)
+
+pub emit-spec : {M : Type 1} → statement M
+emit-spec =
+    tie.close
+    (tie.spec
+    (λ c κs. search needs)
+    (λ c κs. search needs)
+    (λ c κs. search needs)
+    (λ c κs. search needs)
+    (λ c. search needs)
+    returns)

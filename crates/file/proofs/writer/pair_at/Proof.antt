@@ -1,0 +1,20 @@
+-- `file::writer::pair_at` meets its contract: past the end nothing is set. Assumes nothing.
+use borrow.Author.Needs.{needs}
+use mathlib.Core.Path.{refl}
+use mathlib.Core.List.{[], _∷_}
+use Rattle.file.proofs.WritingLaws.{put-out, put-both}
+use Rattle.file.proofs.writer.pair_at.Statement.{statement}
+use Rattle.file.proofs.writer.pair_at.Tie as tie
+
+returns : tie.Need-returns
+returns c =
+    put-both {vs = c .before .before .before .before .before .before .before .before .before .before .args .first ∷ []} {ws = c .before .before .before .before .before .before .before .before .before .before .args .second ∷ []} (record { puts = c .before .before .before .before .before .before .put8 .ensures }) refl
+    (record { puts = c .before .before .put82 .ensures })
+
+returns-2 : tie.Need-returns-2
+returns-2 c = put-out _ (c .if1 .left)
+
+pub pair-at-spec : {M : Type 1} → statement M
+pair-at-spec =
+    tie.close
+    (tie.spec (λ c κs. search needs) (λ c. search needs) (λ c κs. search needs) (λ c. search needs) returns returns-2)

@@ -1,0 +1,27 @@
+-- `file::writer::type_at` meets its contract: part after part. Assumes nothing.
+use borrow.Author.Needs.{needs}
+use mathlib.Core.Path.{refl}
+use native.Mathlib.Omega.{arith}
+use Rattle.lambdamix.specs.Text.{ascii}
+use Rattle.script.specs.Bytes.{bytes16}
+use Rattle.script.specs.File.{typeBytes}
+use Rattle.file.proofs.WritingLaws.{put-out, put-both}
+use Rattle.file.proofs.writer.type_at.Statement.{statement}
+use Rattle.file.proofs.writer.type_at.Tie as tie
+
+returns : tie.Need-returns
+unfolding typeBytes ascii bytes16
+returns c = put-both (c .before .before .before .before .before .before .before .before .before .before .pair-at .ensures) refl (put-both (c .before .before .before .before .before .before .word-at .ensures) (omega arith) (c .before .before .word-at2 .ensures))
+
+pub type-at-spec : {M : Type 1} → statement M
+type-at-spec =
+    tie.close
+    (tie.spec
+    (λ c κs. search needs)
+    (λ c. search needs)
+    (λ c κs. search needs)
+    (λ c. search needs)
+    (λ c κs. search needs)
+    (λ c. search needs)
+    returns
+    (λ c. put-out _ (c .if1 .left)))

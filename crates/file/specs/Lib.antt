@@ -1,0 +1,5 @@
+pub mod Heads
+pub mod Encodable
+pub mod Written
+pub mod AcceptedFile
+pub mod FileTrials

@@ -1,0 +1,46 @@
+-- What the writer's parts do: a record by its number in the columns that hold its parts, and bytes put at a place of the
+-- output. Assumes nothing.
+use Prim.Native.Nat.{ℕ}
+use mathlib.Core.Path.{_≡_}
+use mathlib.Core.List.{List, _++_}
+use mathlib.Core.Option.{Option}
+use lib.IntN.{ℤ, pos}
+use lib.ListN.{length, getD}
+use lib.Seq.{sets}
+use lib.Dec.{leb}
+use Rattle.lambdamix.specs.Script.{Script, FunctionType, Node}
+use Rattle.lambdamix.specs.Text.{ascii}
+use Rattle.lambdamix.specs.Checker.{Refusal}
+use Rattle.script.specs.declared.Writing.{Writing}
+use Rattle.script.specs.Bytes.{bytes16}
+use Rattle.script.specs.File.{fileBytes}
+use Rattle.script.specs.Refusals.{refusedUnless}
+use Rattle.script.specs.Tables.{writtenOutput}
+use Rattle.script.specs.Replies.{writing}
+
+-- the head for three counts
+unfoldable pub headRow : ℕ → ℕ → ℕ → List ℕ
+headRow t i n = ascii "HD" ++ (bytes16 t ++ (bytes16 i ++ bytes16 n))
+
+unfoldable pub typeRow : List ℕ → List ℕ → ℕ → FunctionType
+typeRow parameters results j = record { parameter = getD parameters j 0; result = getD results j 0 }
+
+unfoldable pub inputRow : List ℕ → ℕ → ℕ
+inputRow inputs j = getD inputs j 0
+
+unfoldable pub nodeRow : List ℕ → List ℕ → List ℕ → List ℕ → List ℤ → ℕ → Node
+nodeRow kinds a b c values j =
+    record { kind = getD kinds j 0; a = getD a j 0; b = getD b j 0; c = getD c j 0; value = getD values j (pos 0) }
+
+-- after is before with bytes from place i on; past the end nothing is put
+pub record Put (before : List ℕ) (i : ℕ) (bs : List ℕ) (after : List ℕ) : Type 0 where
+  pub puts : after ≡ sets before i bs
+
+-- "then a short output 21"
+unfoldable pub shortOutput : Script → List ℕ → Option Refusal
+shortOutput s out = refusedUnless (leb (length (fileBytes s)) (length out)) 21 0
+
+-- the writer's answer and output for a script that passed its refusals
+pub record Fitted (s : Script) (before after : List ℕ) (r : Writing) : Type 0 where
+  pub reply : r ≡ writing (shortOutput s before) s
+  pub output : after ≡ writtenOutput (shortOutput s before) s before

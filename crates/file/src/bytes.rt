@@ -1,0 +1,54 @@
+// Little-endian numbers read from bytes; past the end a byte is 0.
+use script::column::at8;
+ghost use mathlib.Core.Path.{_≡_};
+ghost use Rattle.script.specs.Bytes.{word16, word32, signed32};
+
+fn wide8(x: u8) -> u16
+    ensures { λ r. ⌜ r ≡ x ⌝ }
+{
+    x as u16
+}
+
+fn wide16(x: u16) -> u32
+    ensures { λ r. ⌜ r ≡ x ⌝ }
+{
+    x as u32
+}
+
+pub fn word16(s: &[u8], i: usize) -> u16
+    ensures { λ r. ⌜ r ≡ word16 (now (s .entry)) i ⌝ }
+{
+    if i < s.len() {
+        let low = wide8(at8(s, i));
+        let high = wide8(at8(s, i + 1));
+        return low + 256 * high;
+    }
+    0
+}
+
+fn word32(s: &[u8], i: usize) -> u32
+    ensures { λ r. ⌜ r ≡ word32 (now (s .entry)) i ⌝ }
+{
+    if i < s.len() {
+        let low = wide16(word16(s, i));
+        let high = wide16(word16(s, i + 2));
+        return low + 65536 * high;
+    }
+    0
+}
+
+fn signed32(w: u32) -> i32
+    ensures { λ r. ⌜ r ≡ signed32 w ⌝ }
+{
+    if w < 2147483648 {
+        w as i32
+    } else {
+        -1 - ((4294967295 - w) as i32)
+    }
+}
+
+pub fn value32(s: &[u8], i: usize) -> i32
+    ensures { λ r. ⌜ r ≡ signed32 (word32 (now (s .entry)) i) ⌝ }
+{
+    signed32(word32(s, i))
+}

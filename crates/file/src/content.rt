@@ -1,0 +1,258 @@
+// The contents of records, read from columns: refusals 3, 4 and 5.
+use crate::records::record_refusal;
+use lambdamix::Use;
+use script::Found;
+use script::Refusal;
+use script::Verdict;
+use script::column::at8;
+use script::column::at16;
+use script::column::at32;
+use script::kinds::use_of;
+use script::limits::counts_right;
+ghost use mathlib.Core.Path.{_≡_};
+ghost use Prim.Native.Nat.{_<_};
+ghost use mathlib.Core.List.{[], _∷_};
+ghost use lib.ListN.{getD};
+ghost use Rattle.lambdamix.specs.Structure.{firstFailing};
+ghost use Rattle.script.specs.Refusals.{countsRight, otherPair, typeFits, inputFits, fieldRight, fieldsRight, nodeFits};
+ghost use Rattle.script.specs.Replies.{foundAt, refusalOf};
+ghost use Rattle.script.specs.Kinds.{usesTable};
+ghost use Rattle.script.specs.Columns.{typesIn, inputsIn, nodesIn, nodeOf, tablesOf, contentIn};
+
+fn wide(x: u16) -> usize
+    ensures { λ r. ⌜ r ≡ x ⌝ }
+{
+    x as usize
+}
+
+// Whether a field of a node holds what its use asks for.
+fn field_right(types: usize, inputs: usize, node: usize, u: Use, f: u16) -> bool
+    requires { ⌜ types < 65536 ⌝ }
+    ensures { λ r. ⌜ r ≡ fieldRight types inputs node u f ⌝ }
+{
+    let x = f as usize;
+    match u {
+        Use::Nothing => x == 0,
+        Use::Name => true,
+        Use::Binder => inputs <= x,
+        Use::Child => x < node,
+        Use::ParameterType => x < 2 + types,
+        Use::Operation => x < 6,
+    }
+}
+
+// Whether the fields of a node hold what the table's row asks for.
+fn fields_right(types: usize, inputs: usize, node: usize, kind: u8, a: u16, b: u16, c: u16) -> bool
+    requires { ⌜ (types < 65536) × (kind < 13) ⌝ }
+    ensures { λ r. ⌜ r ≡ fieldsRight types inputs node (getD usesTable kind []) (a ∷ b ∷ c ∷ []) ⌝ }
+{
+    if field_right(types, inputs, node, use_of(kind, 0), a) {
+        if field_right(types, inputs, node, use_of(kind, 1), b) {
+            return field_right(types, inputs, node, use_of(kind, 2), c);
+        }
+    }
+    false
+}
+
+// The same of a node that is no constant: its value is an unused field.
+fn step_right(
+    types: usize,
+    inputs: usize,
+    node: usize,
+    kind: u8,
+    a: u16,
+    b: u16,
+    c: u16,
+    value: i32,
+) -> bool
+    requires { ⌜ (types < 65536) × ((0 < kind) × (kind < 13)) ⌝ }
+    ensures { λ r. ⌜ r ≡ nodeFits types inputs (λ j. nodeOf kind a b c value) node ⌝ }
+{
+    if value == 0 {
+        fields_right(types, inputs, node, kind, a, b, c)
+    } else {
+        false
+    }
+}
+
+// A node's kind, then its fields.
+fn node_right(
+    types: usize,
+    inputs: usize,
+    node: usize,
+    kind: u8,
+    a: u16,
+    b: u16,
+    c: u16,
+    value: i32,
+) -> bool
+    requires { ⌜ types < 65536 ⌝ }
+    ensures { λ r. ⌜ r ≡ nodeFits types inputs (λ j. nodeOf kind a b c value) node ⌝ }
+{
+    match kind {
+        0 => fields_right(types, inputs, node, kind, a, b, c),
+        1 => step_right(types, inputs, node, kind, a, b, c, value),
+        2..=7 => step_right(types, inputs, node, kind, a, b, c, value),
+        8..=12 => step_right(types, inputs, node, kind, a, b, c, value),
+        _ => false,
+    }
+}
+
+// Whether record i lists another pair than record j.
+fn other_pair(parameters: &[u16], results: &[u16], j: usize, i: usize) -> bool
+    ensures { λ r. ⌜ r ≡ otherPair (typesIn (now (parameters .entry)) (now (results .entry))) j i ⌝ }
+{
+    if at16(parameters, i) == at16(parameters, j) {
+        return at16(results, i) != at16(results, j);
+    }
+    true
+}
+
+// The first record before record j that lists the same pair.
+fn first_same_pair(parameters: &[u16], results: &[u16], j: usize) -> Found
+    ensures { λ r. ⌜ foundAt r ≡ firstFailing (otherPair (typesIn (now (parameters .entry)) (now (results .entry))) j) 0 j ⌝ }
+{
+    let mut i = 0;
+    while i < j {
+        if other_pair(parameters, results, j, i) {
+            i += 1;
+        } else {
+            return Found::At(i);
+        }
+    }
+    Found::Nowhere
+}
+
+// "Both parts are below the record's own number. No pair is listed twice"
+fn type_right(parameters: &[u16], results: &[u16], j: usize) -> bool
+    requires { ⌜ j < 65536 ⌝ }
+    ensures { λ r. ⌜ r ≡ typeFits (typesIn (now (parameters .entry)) (now (results .entry))) j ⌝ }
+{
+    let own = 2 + j;
+    if own <= wide(at16(parameters, j)) {
+        return false;
+    }
+    if own <= wide(at16(results, j)) {
+        return false;
+    }
+    match first_same_pair(parameters, results, j) {
+        Found::Nowhere => true,
+        Found::At(_) => false,
+    }
+}
+
+fn first_bad_type(types: usize, parameters: &[u16], results: &[u16]) -> Found
+    requires { ⌜ types < 65536 ⌝ }
+    ensures { λ r. ⌜ foundAt r ≡ firstFailing (typeFits (typesIn (now (parameters .entry)) (now (results .entry)))) 0 types ⌝ }
+{
+    let mut j = 0;
+    while j < types {
+        if type_right(parameters, results, j) {
+            j += 1;
+        } else {
+            return Found::At(j);
+        }
+    }
+    Found::Nowhere
+}
+
+// "type, 2 bytes, 0 or 1"
+fn input_right(input_types: &[u16], j: usize) -> bool
+    ensures { λ r. ⌜ r ≡ inputFits (inputsIn (now («input_types» .entry))) j ⌝ }
+{
+    at16(input_types, j) <= 1
+}
+
+fn first_bad_input(inputs: usize, input_types: &[u16]) -> Found
+    ensures { λ r. ⌜ foundAt r ≡ firstFailing (inputFits (inputsIn (now («input_types» .entry)))) 0 inputs ⌝ }
+{
+    let mut j = 0;
+    while j < inputs {
+        if input_right(input_types, j) {
+            j += 1;
+        } else {
+            return Found::At(j);
+        }
+    }
+    Found::Nowhere
+}
+
+fn node_at_right(
+    types: usize,
+    inputs: usize,
+    kinds: &[u8],
+    a: &[u16],
+    b: &[u16],
+    c: &[u16],
+    values: &[i32],
+    j: usize,
+) -> bool
+    requires { ⌜ types < 65536 ⌝ }
+    ensures { λ r. ⌜ r ≡ nodeFits types inputs (nodesIn (now (kinds .entry)) (now (a .entry)) (now (b .entry)) (now (c .entry)) (now (values .entry))) j ⌝ }
+{
+    let kind = at8(kinds, j);
+    let value = at32(values, j);
+    node_right(
+        types,
+        inputs,
+        j,
+        kind,
+        at16(a, j),
+        at16(b, j),
+        at16(c, j),
+        value,
+    )
+}
+
+fn first_bad_node(
+    types: usize,
+    inputs: usize,
+    nodes: usize,
+    kinds: &[u8],
+    a: &[u16],
+    b: &[u16],
+    c: &[u16],
+    values: &[i32],
+) -> Found
+    requires { ⌜ types < 65536 ⌝ }
+    ensures { λ r. ⌜ foundAt r ≡ firstFailing (nodeFits types inputs (nodesIn (now (kinds .entry)) (now (a .entry)) (now (b .entry)) (now (c .entry)) (now (values .entry)))) 0 nodes ⌝ }
+{
+    let mut j = 0;
+    while j < nodes {
+        if node_at_right(types, inputs, kinds, a, b, c, values, j) {
+            j += 1;
+        } else {
+            return Found::At(j);
+        }
+    }
+    Found::Nowhere
+}
+
+// Refusal 3, then 4 and 5 at the first record that is bad.
+pub fn content_refusal(
+    types: usize,
+    inputs: usize,
+    nodes: usize,
+    parameters: &[u16],
+    results: &[u16],
+    input_types: &[u16],
+    kinds: &[u8],
+    a: &[u16],
+    b: &[u16],
+    c: &[u16],
+    values: &[i32],
+) -> Verdict
+    ensures { λ r. ⌜ refusalOf r ≡ contentIn types inputs nodes (tablesOf (now (parameters .entry)) (now (results .entry)) (now («input_types» .entry)) (now (kinds .entry)) (now (a .entry)) (now (b .entry)) (now (c .entry)) (now (values .entry))) ⌝ }
+{
+    if counts_right(types, inputs, nodes) {
+        let bad_type = first_bad_type(types, parameters, results);
+        let bad_input = first_bad_input(inputs, input_types);
+        let bad_node = first_bad_node(types, inputs, nodes, kinds, a, b, c, values);
+        record_refusal(types, inputs, 4, 5, bad_type, bad_input, bad_node)
+    } else {
+        Verdict::Refused(Refusal {
+            number: 3,
+            place: 0,
+        })
+    }
+}

@@ -1,0 +1,135 @@
+// The check of counts and tables: refusals 1 to 8.
+use crate::content::content_refusal;
+use script::Counts;
+use script::Refusal;
+use script::Verdict;
+use script::structure::structure_refusal;
+ghost use mathlib.Core.Path.{_≡_};
+ghost use mathlib.Core.Bool.{_&&_};
+ghost use lib.Dec.{leb};
+ghost use Rattle.script.specs.Refusals.{scriptRefusal};
+ghost use Rattle.script.specs.Tables.{tablesScript, tablesRefusal};
+ghost use Rattle.script.specs.Replies.{refusalOf};
+ghost use Rattle.script.specs.Columns.{tablesOf, enough};
+
+// Whether two columns, by their lengths, hold n records.
+fn both_hold(n: usize, x: usize, y: usize) -> bool
+    ensures { λ r. ⌜ r ≡ (leb n x && leb n y) ⌝ }
+{
+    if x < n {
+        return false;
+    }
+    n <= y
+}
+
+// Whether the eight columns, by their lengths, hold as many records as are counted.
+pub fn long_enough(
+    n: Counts,
+    parameters: usize,
+    results: usize,
+    input_types: usize,
+    kinds: usize,
+    a: usize,
+    b: usize,
+    c: usize,
+    values: usize,
+) -> bool
+    ensures { λ r. ⌜ r ≡ enough (n .types) (n .inputs) (n .nodes) parameters results «input_types» kinds a b c values ⌝ }
+{
+    let types = n.types as usize;
+    let inputs = n.inputs as usize;
+    let nodes = n.nodes as usize;
+    if both_hold(types, parameters, results) {
+        if inputs <= input_types {
+            if both_hold(nodes, kinds, a) {
+                if nodes <= b {
+                    return both_hold(nodes, c, values);
+                }
+            }
+        }
+    }
+    false
+}
+
+// Refusals 3 to 8.
+fn script_refusal(
+    types: usize,
+    inputs: usize,
+    nodes: usize,
+    parameters: &[u16],
+    results: &[u16],
+    input_types: &[u16],
+    kinds: &[u8],
+    a: &[u16],
+    b: &[u16],
+    c: &[u16],
+    values: &[i32],
+) -> Verdict
+    ensures { λ r. ⌜ refusalOf r ≡ scriptRefusal (tablesScript types inputs nodes (tablesOf (now (parameters .entry)) (now (results .entry)) (now («input_types» .entry)) (now (kinds .entry)) (now (a .entry)) (now (b .entry)) (now (c .entry)) (now (values .entry)))) ⌝ }
+{
+    match content_refusal(
+        types,
+        inputs,
+        nodes,
+        parameters,
+        results,
+        input_types,
+        kinds,
+        a,
+        b,
+        c,
+        values,
+    ) {
+        Verdict::Refused(f) => Verdict::Refused(f),
+        Verdict::Passed => structure_refusal(kinds, a, b, c, inputs, nodes),
+    }
+}
+
+// "tables shorter than the counts give 1 [0] before all else", then refusals 3 to 8.
+pub fn tables_refusal(
+    n: Counts,
+    parameters: &[u16],
+    results: &[u16],
+    input_types: &[u16],
+    kinds: &[u8],
+    a: &[u16],
+    b: &[u16],
+    c: &[u16],
+    values: &[i32],
+) -> Verdict
+    ensures { λ r. ⌜ refusalOf r ≡ tablesRefusal (n .types) (n .inputs) (n .nodes) (tablesOf (now (parameters .entry)) (now (results .entry)) (now («input_types» .entry)) (now (kinds .entry)) (now (a .entry)) (now (b .entry)) (now (c .entry)) (now (values .entry))) ⌝ }
+{
+    if long_enough(
+        n,
+        parameters.len(),
+        results.len(),
+        input_types.len(),
+        kinds.len(),
+        a.len(),
+        b.len(),
+        c.len(),
+        values.len(),
+    ) {
+        let types = n.types as usize;
+        let inputs = n.inputs as usize;
+        let nodes = n.nodes as usize;
+        script_refusal(
+            types,
+            inputs,
+            nodes,
+            parameters,
+            results,
+            input_types,
+            kinds,
+            a,
+            b,
+            c,
+            values,
+        )
+    } else {
+        Verdict::Refused(Refusal {
+            number: 1,
+            place: 0,
+        })
+    }
+}

@@ -1,0 +1,228 @@
+// The writer of script files. A part is put at a place of the output; past the end nothing is put.
+use crate::tables;
+use script::Counts;
+use script::Refusal;
+use script::Verdict;
+use script::Writing;
+use script::column;
+ghost use Prim.Native.Nat.{_+_, _*_};
+ghost use mathlib.Core.Path.{_≡_};
+ghost use mathlib.Core.List.{[], _∷_};
+ghost use Rattle.script.specs.Bytes.{bits32, bytes16, bytes32};
+ghost use Rattle.script.specs.File.{typeBytes, inputBytes, nodeBytes, records, numbered, fileBytes, fileLength};
+ghost use Rattle.script.specs.Tables.{tablesScript};
+ghost use Rattle.script.specs.Replies.{Writes};
+ghost use Rattle.file.specs.Written.{Put, Fitted, headRow, typeRow, inputRow, nodeRow};
+
+// Two bytes at a place.
+fn pair_at(out: &mut [u8], at: usize, first: u8, second: u8)
+    ensures { λ r. ⌜ Put (now (out .entry)) at (first ∷ second ∷ []) (now (out .exit)) ⌝ }
+{
+    if at < out.len() {
+        column::put8(out, at, first);
+        column::put8(out, at + 1, second);
+    }
+}
+
+// A number of 16 bits at a place, the low byte first.
+fn word_at(out: &mut [u8], at: usize, v: u16)
+    ensures { λ r. ⌜ Put (now (out .entry)) at (bytes16 v) (now (out .exit)) ⌝ }
+{
+    let low = (v % 256) as u8;
+    let high = (v / 256 % 256) as u8;
+    pair_at(out, at, low, high)
+}
+
+// The bits of a signed number.
+fn bits(v: i32) -> u32
+    ensures { λ r. ⌜ r ≡ bits32 v ⌝ }
+{
+    if v < 0 {
+        4294967295 - ((-1 - v) as u32)
+    } else {
+        v as u32
+    }
+}
+
+// A signed number of 32 bits at a place, the low byte first.
+fn value_at(out: &mut [u8], at: usize, v: i32)
+    ensures { λ r. ⌜ Put (now (out .entry)) at (bytes32 (bits32 v)) (now (out .exit)) ⌝ }
+{
+    if at < out.len() {
+        let w = bits(v);
+        word_at(out, at, (w % 65536) as u16);
+        word_at(out, at + 2, (w / 65536) as u16);
+    }
+}
+
+// A record of each kind at a place.
+pub fn head_at(out: &mut [u8], at: usize, n: Counts)
+    ensures { λ r. ⌜ Put (now (out .entry)) at (headRow (n .types) (n .inputs) (n .nodes)) (now (out .exit)) ⌝ }
+{
+    if at < out.len() {
+        pair_at(out, at, b'H', b'D');
+        word_at(out, at + 2, n.types);
+        word_at(out, at + 4, n.inputs);
+        word_at(out, at + 6, n.nodes);
+    }
+}
+
+fn type_at(out: &mut [u8], at: usize, parameter: u16, result: u16)
+    ensures { λ r. ⌜ Put (now (out .entry)) at (typeBytes (record { parameter = parameter; result = result })) (now (out .exit)) ⌝ }
+{
+    if at < out.len() {
+        pair_at(out, at, b'T', b'Y');
+        word_at(out, at + 2, parameter);
+        word_at(out, at + 4, result);
+    }
+}
+
+fn input_at(out: &mut [u8], at: usize, input: u16)
+    ensures { λ r. ⌜ Put (now (out .entry)) at (inputBytes input) (now (out .exit)) ⌝ }
+{
+    if at < out.len() {
+        pair_at(out, at, b'I', b'N');
+        word_at(out, at + 2, input);
+    }
+}
+
+pub fn node_at(out: &mut [u8], at: usize, kind: u8, a: u16, b: u16, c: u16, value: i32)
+    ensures { λ r. ⌜ Put (now (out .entry)) at (nodeBytes (record { kind = kind; a = a; b = b; c = c; value = value })) (now (out .exit)) ⌝ }
+{
+    if at < out.len() {
+        pair_at(out, at, b'N', b'D');
+        column::put8(out, at + 2, kind);
+        word_at(out, at + 3, a);
+        word_at(out, at + 5, b);
+        word_at(out, at + 7, c);
+        value_at(out, at + 9, value);
+    }
+}
+
+// All records of a kind, one after the other, where the counts place them.
+fn types_at(out: &mut [u8], n: Counts, parameters: &[u16], results: &[u16])
+    ensures { λ r. ⌜ Put (now (out .entry)) 8 (records typeBytes (numbered (typeRow (now (parameters .entry)) (now (results .entry))) 0 (n .types))) (now (out .exit)) ⌝ }
+{
+    let count = n.types as usize;
+    let mut j: usize = 0;
+    while j < count {
+        let parameter = column::at16(parameters, j);
+        let result = column::at16(results, j);
+        type_at(out, 8 + 6 * j, parameter, result);
+        j += 1;
+    }
+}
+
+pub fn inputs_at(out: &mut [u8], n: Counts, inputs: &[u16])
+    ensures { λ r. ⌜ Put (now (out .entry)) (8 + 6 * n .types) (records inputBytes (numbered (inputRow (now (inputs .entry))) 0 (n .inputs))) (now (out .exit)) ⌝ }
+{
+    let first = 8 + 6 * (n.types as usize);
+    let count = n.inputs as usize;
+    let mut j: usize = 0;
+    while j < count {
+        let input = column::at16(inputs, j);
+        input_at(out, first + 4 * j, input);
+        j += 1;
+    }
+}
+
+fn nodes_at(
+    out: &mut [u8],
+    n: Counts,
+    kinds: &[u8],
+    a: &[u16],
+    b: &[u16],
+    c: &[u16],
+    values: &[i32],
+)
+    ensures { λ r. ⌜ Put (now (out .entry)) (8 + 6 * n .types + 4 * n .inputs) (records nodeBytes (numbered (nodeRow (now (kinds .entry)) (now (a .entry)) (now (b .entry)) (now (c .entry)) (now (values .entry))) 0 (n .nodes))) (now (out .exit)) ⌝ }
+{
+    let first = 8 + 6 * (n.types as usize) + 4 * (n.inputs as usize);
+    let count = n.nodes as usize;
+    let mut j: usize = 0;
+    while j < count {
+        let kind = column::at8(kinds, j);
+        let fa = column::at16(a, j);
+        let fb = column::at16(b, j);
+        let fc = column::at16(c, j);
+        let value = column::at32(values, j);
+        node_at(out, first + 13 * j, kind, fa, fb, fc, value);
+        j += 1;
+    }
+}
+
+// The whole file.
+fn emit(
+    n: Counts,
+    parameters: &[u16],
+    results: &[u16],
+    inputs: &[u16],
+    kinds: &[u8],
+    a: &[u16],
+    b: &[u16],
+    c: &[u16],
+    values: &[i32],
+    out: &mut [u8],
+)
+    ensures { λ r. ⌜ Put (now (out .entry)) 0 (fileBytes (tablesScript (n .types) (n .inputs) (n .nodes) (record { parameters = now (parameters .entry); results = now (results .entry); inputs = now (inputs .entry); kinds = now (kinds .entry); a = now (a .entry); b = now (b .entry); c = now (c .entry); values = now (values .entry) }))) (now (out .exit)) ⌝ }
+{
+    head_at(out, 0, n);
+    types_at(out, n, parameters, results);
+    inputs_at(out, n, inputs);
+    nodes_at(out, n, kinds, a, b, c, values);
+}
+
+fn file_size(n: Counts) -> usize
+    ensures { λ r. ⌜ r ≡ fileLength (n .types) (n .inputs) (n .nodes) ⌝ }
+{
+    8 + 6 * (n.types as usize) + 4 * (n.inputs as usize) + 13 * (n.nodes as usize)
+}
+
+// The file if the output has room for it, else 21.
+fn fit(
+    n: Counts,
+    parameters: &[u16],
+    results: &[u16],
+    inputs: &[u16],
+    kinds: &[u8],
+    a: &[u16],
+    b: &[u16],
+    c: &[u16],
+    values: &[i32],
+    out: &mut [u8],
+) -> Writing
+    ensures { λ r. ⌜ Fitted (tablesScript (n .types) (n .inputs) (n .nodes) (record { parameters = now (parameters .entry); results = now (results .entry); inputs = now (inputs .entry); kinds = now (kinds .entry); a = now (a .entry); b = now (b .entry); c = now (c .entry); values = now (values .entry) })) (now (out .entry)) (now (out .exit)) r ⌝ }
+{
+    let size = file_size(n);
+    if size <= out.len() {
+        emit(n, parameters, results, inputs, kinds, a, b, c, values, out);
+        return Writing::Written(size);
+    }
+    Writing::Refused(Refusal {
+        number: 21,
+        place: 0,
+    })
+}
+
+// Tables shorter than the counts: 1 [0]; then the refusals of the tables' file; then 21 for a short output. Output that is
+// not written stays as it was.
+pub fn write(
+    n: Counts,
+    parameters: &[u16],
+    results: &[u16],
+    inputs: &[u16],
+    kinds: &[u8],
+    a: &[u16],
+    b: &[u16],
+    c: &[u16],
+    values: &[i32],
+    out: &mut [u8],
+) -> Writing
+    ensures { λ r. ⌜ Writes n (record { parameters = now (parameters .entry); results = now (results .entry); inputs = now (inputs .entry); kinds = now (kinds .entry); a = now (a .entry); b = now (b .entry); c = now (c .entry); values = now (values .entry) }) (now (out .entry)) (now (out .exit)) r ⌝ }
+{
+    let verdict = tables::tables_refusal(n, parameters, results, inputs, kinds, a, b, c, values);
+    match verdict {
+        Verdict::Passed => fit(n, parameters, results, inputs, kinds, a, b, c, values, out),
+        Verdict::Refused(f) => Writing::Refused(f),
+    }
+}

@@ -1,0 +1,21 @@
+-- `printer::parts::text_at` meets its contract. Assumes nothing.
+use borrow.Author.Needs.{needs}
+use Rattle.printer.proofs.Writing.{placed}
+use Rattle.printer.proofs.parts.text_at.Statement.{statement}
+use Rattle.printer.proofs.parts.text_at.Tie as tie
+
+returns : tie.Need-returns
+returns c = placed (c .before .before .before .before .before .least .ensures) (c .before .before .before .put-text .ensures) (c .further .ensures)
+
+pub text-at-spec : {M : Type 1} → statement M
+text-at-spec =
+    tie.close
+    (tie.spec
+    (λ c κs. search needs)
+    (λ c. search needs)
+    (λ c. search needs)
+    (λ c. search needs)
+    (λ c κs. search needs)
+    (λ c κs. search needs)
+    (λ c. search needs)
+    returns)

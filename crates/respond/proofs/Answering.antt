@@ -1,0 +1,164 @@
+-- A script that is held is answered as the calculus says: by what the maker told, or by its file, which is read as it was written.
+-- Assumes nothing.
+use Prim.Native.Nat.{ℕ, _+_, _*_, _≤_}
+use mathlib.Core.Path.{_≡_, refl, sym, ap, _∙_}
+use mathlib.Core.Bool.{Bool, true, false}
+use mathlib.Core.List.{List, [], _∷_, _++_, append-assoc}
+use mathlib.Core.Option.{Option, none, some}
+use native.Mathlib.Omega.{arith}
+use lib.IntN.{ℤ}
+use lib.ListN.{length, take}
+use lib.Seq.{take-at}
+use lib.Dec.{leb, ltb}
+use borrow.Author.Tests.{le-leb, leb-true}
+use Rattle.lambdamix.specs.Limits.{maxNodes, maxHeight, maxFuel}
+use Rattle.lambdamix.specs.Script.{Script, nodeCount}
+use Rattle.lambdamix.specs.Checker.{Refusal, annotationRefusal}
+use Rattle.lambdamix.specs.Structure.{orElse}
+use Rattle.lambdamix.specs.Code.{Code, size, codeHeight, fits, nodesFrom, written}
+use Rattle.lambdamix.specs.Specializing as Calculus
+use Rattle.lambdamix.specs.Specializing.{callRefusal, unlessRefused, answerReply, madeBy, make, specialized, finished}
+use Rattle.lambdamix.specs.Text.{ascii, digits}
+use Rattle.lambdamix.specs.Listing.{listing}
+use Rattle.lambdamix.proofs.Tests.{and-both}
+use Rattle.lambdamix.proofs.WrittenTree.{written-size}
+use Rattle.script.specs.declared.Counts.{Counts}
+use Rattle.script.specs.declared.Refusal as Told
+use Rattle.script.specs.File.{fileBytes, fileLength, nodeOffset, headInputs, scriptIn}
+use Rattle.script.specs.Refusals.{fileRefusal}
+use Rattle.file.specs.Heads.{headCounts}
+use Rattle.file.specs.Encodable.{AllBytes}
+use Rattle.script.specs.Tables.{Tables, over}
+use Rattle.script.proofs.RefusalLaws.{neither}
+use Rattle.file.proofs.FileLaws.{file-length, file-refusal, read-written}
+use Rattle.file.proofs.AcceptedAgain.{written-again}
+use Rattle.specializer.specs.Making.{Stores, storesSuffice, storesAfter, numbered}
+use Rattle.specializer.specs.declared.Reply.{Reply}
+use Rattle.specializer.specs.declared.Reply.the-variants as Reply
+use Rattle.specializer.specs.Entry.{replied, Makes}
+use Rattle.respond.specs.Response.{programFuel, wholeSettings, settingsReply, unmadeText, replyText}
+use Rattle.respond.specs.Given.{givenSettings}
+use Rattle.respond.specs.Answers.{settingsRefusal, laterRefusal}
+use Rattle.respond.specs.Stages.{Prints, countsText, PrintsMade, Held, Answered, AnswersScript}
+use Rattle.respond.proofs.Files.{script-counts, script-passes, few-inputs}
+use Rattle.respond.proofs.GivenSettings.{given-refusal, given-reply, settings-fit}
+use Rattle.respond.proofs.Making.{before-is, making-is, MadeCode, made-told, unmade-told}
+use Rattle.respond.proofs.ValuesFit.{values-fit}
+
+-- ---- the file of code that fits
+
+made-length : (s : Script) (c : Code) → length (fileBytes (written s c)) ≡ fileLength 0 (length (s .inputs)) (size c)
+unfolding written nodeCount
+made-length s c = file-length (written s c) ∙ ap (fileLength 0 (length (s .inputs))) (written-size s c)
+
+made-room : (s : Script) → length (s .inputs) ≤ 16 → (c : Code) → fits c ≡ true → length (fileBytes (written s c)) ≤ 65536
+unfolding fits fileLength nodeOffset maxNodes
+made-room s few c e =
+    omega (arith, made-length s c, leb-true (size c) maxNodes (and-both (leb (size c) maxNodes) (leb (codeHeight c) maxHeight) e .0))
+
+over-take : (new old : List ℕ) (j : ℕ) → length new ≡ j → take j (over new old) ≡ new
+unfolding over
+over-take new old j e = take-at new _ j e
+
+done-reply :
+    (s : Script) (zs : List ℤ) {c : Code} {k : ℕ} {r : Option Refusal} → r ≡ none → specialized s zs programFuel ≡ finished c k →
+    fits c ≡ true → unlessRefused r (answerReply (specialized s zs programFuel)) ≡ Calculus.made c k
+unfolding unlessRefused answerReply madeBy
+done-reply s zs e f g = rw (e, f, g)
+
+-- ---- the text of finished code
+
+made-text : (s : Script) (c : Code) (k : ℕ) → countsText k (size c) ++ listing (written s c) ≡ replyText s (Calculus.made c k)
+unfolding countsText replyText
+made-text s c k =
+    regroup (ascii "accepted\nsteps ") (digits k) (ascii "\nnodes ") (digits (size c)) (ascii "\n") (listing (written s c))
+  where
+    regroup : (a b c d e f : List ℕ) → ((((a ++ b) ++ c) ++ d) ++ e) ++ f ≡ a ++ (b ++ (c ++ (d ++ (e ++ f))))
+    regroup a b c d e f = simp append-assoc
+
+module _ {n : Counts} {x : Tables} (rest : List ℕ) {file made : List ℕ} {before after : Stores} where
+  module _ {reply : Reply} (m : Makes false n x (givenSettings rest) programFuel before after file made reply)
+      (bs : List ℕ) (h : Held bs n x) (enough : storesSuffice programFuel before ≡ true) where
+    abbrev script : Script
+    script = scriptIn bs
+
+    few : length (script .inputs) ≤ 16
+    few = few-inputs bs (h .read)
+
+    later : orElse (annotationRefusal script) (callRefusal script (givenSettings rest) programFuel) ≡ laterRefusal script rest
+    unfolding laterRefusal
+    later = ap (orElse (annotationRefusal script)) (given-refusal script few rest)
+
+    stores-left : after ≡ storesAfter (laterRefusal script rest) before
+    stores-left =
+        m .stored ∙ ap (λ f. storesAfter f before) (before-is h (givenSettings rest) before enough ∙ later)
+
+    reply-is :
+        unlessRefused (orElse (annotationRefusal script) (callRefusal script (givenSettings rest) programFuel))
+        (answerReply (specialized script (givenSettings rest) programFuel))
+        ≡ settingsReply (wholeSettings rest) script rest
+    unfolding make
+    reply-is = given-reply script few rest
+
+  -- the maker told number and place
+  pub answered-unmade :
+      {f : Told.Refusal} {k r : ℕ} {out printed : List ℕ} {reply : Reply} → Makes false n x (givenSettings rest) programFuel before after file made reply →
+      reply ≡ Reply.Unmade f k → Prints (unmadeText (ltb (f .number) 20) (f .number) (f .place)) out printed r →
+      AnswersScript n rest x before after file out printed r
+  unfolding replied replyText
+  answered-unmade {f} {k} m q p = record {
+    answers = λ bs h all enough wide long.
+        let told =
+        unmade-told (scriptIn bs) (givenSettings rest) file made
+        (λ c e. le-leb (length (fileBytes (written (scriptIn bs) c))) (length file) (omega (arith, made-room (scriptIn bs) (few m bs h enough) c e)))
+        _ (numbered (f .number) (f .place)) k
+        ((rw q at (m .gives)) ∙ making-is h (givenSettings rest) before enough file) in
+        record {
+          prints = rw (sym (reply-is m bs h enough) ∙ told) p;
+          stores = stores-left m bs h enough;
+        };
+  }
+
+  -- the maker wrote a file
+  pub answered-made :
+      {k l r : ℕ} {out printed : List ℕ} {reply : Reply} → Makes false n x (givenSettings rest) programFuel before after file made reply →
+      reply ≡ Reply.Made k l → PrintsMade (n .inputs) k l made x out printed r →
+      AnswersScript n rest x before after file out printed r
+  unfolding replied headCounts programFuel maxFuel
+  answered-made {k} {l} m q p = record {
+    answers = λ bs h all enough wide long.
+        let s : Script = scriptIn bs in
+        let zs : List ℤ = givenSettings rest in
+        let t = made-told s zs file made _ k l ((rw q at (m .gives)) ∙ making-is h zs before enough file) in
+        let c : Code = t .code in
+        let annotated : annotationRefusal s ≡ none = neither _ _ (t .free) .0 in
+        let (fit, passes, again) =
+        written-again s (script-passes bs (h .read)) annotated (values-fit bs (h .bytes)) zs (settings-fit rest all) programFuel (omega arith) c k (t .run) (t .fitting) in
+        let same : scriptIn (fileBytes (written s c)) ≡ written s c = read-written (written s c) fit in
+        let read : fileRefusal (fileBytes (written s c)) ≡ none = file-refusal (written s c) fit ∙ passes in
+        let part : take (fileLength 0 (n .inputs) l) made ≡ fileBytes (written s c) = file-part bs h c (t .nodes) (t .file) in
+        let text : countsText k l ++ listing (scriptIn (take (fileLength 0 (n .inputs) l) made)) ≡ replyText s (Calculus.made c k) =
+        ap (λ (w : List ℕ). countsText k l ++ listing (scriptIn w)) part
+        ∙ ap (λ (w : Script). countsText k l ++ listing w) same
+        ∙ ap (λ (j : ℕ). countsText k j ++ listing (written s c)) (t .nodes)
+        ∙ made-text s c k in
+        let finish : Calculus.made c k ≡ settingsReply (wholeSettings rest) s rest = finished-reply bs h c (t .free) (t .run) (t .fitting) enough in
+        record {
+          prints = rw (← finish, ← text) (p .prints (rw part read) (h .room) long);
+          stores = stores-left m bs h enough;
+        };
+  }
+    where
+      file-part :
+          (bs : List ℕ) → Held bs n x → (c : Code) → l ≡ size c → made ≡ over (fileBytes (written (scriptIn bs) c)) file →
+          take (fileLength 0 (n .inputs) l) made ≡ fileBytes (written (scriptIn bs) c)
+      file-part bs h c e g =
+          let i : n .inputs ≡ length (scriptIn bs .inputs) = ap (λ (m : Counts). m .inputs) (h .counts) ∙ sym (script-counts bs .1) in
+          rw (g, e, i) (over-take (fileBytes (written (scriptIn bs) c)) file _ (made-length (scriptIn bs) c))
+
+      finished-reply :
+          (bs : List ℕ) → Held bs n x → (c : Code) →
+          orElse (annotationRefusal (scriptIn bs)) (callRefusal (scriptIn bs) (givenSettings rest) programFuel) ≡ none →
+          specialized (scriptIn bs) (givenSettings rest) programFuel ≡ finished c k → fits c ≡ true →
+          storesSuffice programFuel before ≡ true → Calculus.made c k ≡ settingsReply (wholeSettings rest) (scriptIn bs) rest
+      finished-reply bs h c e f g enough = sym (done-reply (scriptIn bs) (givenSettings rest) e f g) ∙ reply-is m bs h enough

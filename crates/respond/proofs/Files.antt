@@ -1,0 +1,88 @@
+-- A file that passes 1 to 8 and the tables that hold it. Assumes nothing.
+use Prim.Native.Nat.{ℕ, _≤_}
+use mathlib.Core.Path.{_≡_, refl, sym, ap, _∙_}
+use mathlib.Core.Bool.{Bool, true, false, _&&_}
+use mathlib.Core.List.{List}
+use mathlib.Core.Option.{none}
+use native.Mathlib.Omega.{arith}
+use lib.ListN.{length}
+use lib.Dec.{leb}
+use borrow.Author.Tests.{le-leb, leb-true}
+use Rattle.lambdamix.specs.Script.{Script}
+use Rattle.lambdamix.specs.Structure.{orElse, structureRefusal}
+use Rattle.lambdamix.proofs.Tests.{and-both, and-intro}
+use Rattle.script.specs.declared.Counts.{Counts}
+use Rattle.script.specs.File.{headTypes, headInputs, headNodes, scriptIn}
+use Rattle.script.specs.Refusals.{refusedUnless, countsRight, contentRefusal, scriptRefusal, bodyRefusal, fileRefusal}
+use Rattle.file.specs.Heads.{headCounts}
+use Rattle.script.specs.Tables.{Tables, tablesScript, tablesRefusal, longEnough}
+use Rattle.script.proofs.RefusalLaws.{neither, no-earlier, not-refused, pass-over}
+use Rattle.file.proofs.RecordLaws.{numbered-length}
+use Rattle.file.proofs.ContentLaws.{in-limits}
+use Rattle.respond.specs.Stages.{Held}
+
+pub script-counts :
+    (bs : List ℕ) →
+    (length (scriptIn bs .types) ≡ headTypes bs) × (length (scriptIn bs .inputs) ≡ headInputs bs) × (length (scriptIn bs .nodes) ≡ headNodes bs)
+unfolding scriptIn
+script-counts bs = (numbered-length _ 0 (headTypes bs), numbered-length _ 0 (headInputs bs), numbered-length _ 0 (headNodes bs))
+
+-- what no refusal says of a file
+pub record FilePasses (bs : List ℕ) : Type 0 where
+  pub counts : countsRight (headTypes bs) (headInputs bs) (headNodes bs) ≡ true
+  pub content : contentRefusal (scriptIn bs) ≡ none
+  pub structure : structureRefusal (scriptIn bs) ≡ none
+
+pub file-passes : (bs : List ℕ) → fileRefusal bs ≡ none → FilePasses bs
+unfolding fileRefusal bodyRefusal
+file-passes bs e =
+    let after-mark = neither _ _ (neither _ _ e .1) .1 in
+    let counted = neither _ _ after-mark in
+    let body = neither _ _ (neither _ _ (counted .1) .1) in
+    record {
+      counts = not-refused _ _ _ (counted .0);
+      content = no-earlier _ _ (body .0) .1;
+      structure = body .1;
+    }
+
+pub script-passes : (bs : List ℕ) → fileRefusal bs ≡ none → scriptRefusal (scriptIn bs) ≡ none
+unfolding scriptRefusal refusedUnless orElse
+script-passes bs e =
+    let p = file-passes bs e in
+    let c = script-counts bs in
+    rw (c .0, c .1, c .2, p .counts, p .content, p .structure)
+
+pub few-inputs : (bs : List ℕ) → fileRefusal bs ≡ none → length (scriptIn bs .inputs) ≤ 16
+few-inputs bs e = omega (arith, script-counts bs .1, in-limits _ _ _ (file-passes bs e .counts) .inputs)
+
+-- ---- tables that are long enough for every file
+
+lower : {a b : ℕ} (x : ℕ) → a ≤ b → leb b x ≡ true → leb a x ≡ true
+lower {a} {b} x h e = le-leb a x (omega (arith, leb-true b x e))
+
+pub long-for :
+    (t i n : ℕ) (x : Tables) → countsRight t i n ≡ true → longEnough 64 16 4096 x ≡ true → longEnough t i n x ≡ true
+unfolding longEnough
+long-for t i n x h e =
+    let l = in-limits t i n h in
+    let (types, rest) = and-both _ _ e in
+    let (inputs, nodes) = and-both _ _ rest in
+    let (two, three) = and-both _ _ nodes in
+    let (ps, rs) = and-both _ _ types in
+    let (ks, xs) = and-both _ _ two in
+    let (ys, others) = and-both _ _ three in
+    let (cs, vs) = and-both _ _ others in
+    and-intro (and-intro (lower _ (l .types) ps) (lower _ (l .types) rs))
+    (and-intro (lower _ (l .inputs) inputs)
+    (and-intro (and-intro (lower _ (l .nodes) ks) (lower _ (l .nodes) xs))
+    (and-intro (lower _ (l .nodes) ys) (and-intro (lower _ (l .nodes) cs) (lower _ (l .nodes) vs)))))
+
+pub held-passes :
+    {bs : List ℕ} {n : Counts} {x : Tables} → Held bs n x → tablesRefusal (n .types) (n .inputs) (n .nodes) x ≡ none
+unfolding tablesRefusal headCounts
+held-passes {bs} {n} {x} h =
+    let counts : countsRight (n .types) (n .inputs) (n .nodes) ≡ true =
+    ap (λ (m : Counts). countsRight (m .types) (m .inputs) (m .nodes)) (h .counts) ∙ file-passes bs (h .read) .counts in
+    pass-over 1 0 _ (long-for (n .types) (n .inputs) (n .nodes) x counts (h .room))
+    ∙ ap scriptRefusal (h .script)
+    ∙ script-passes bs (h .read)

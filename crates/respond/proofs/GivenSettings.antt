@@ -1,0 +1,129 @@
+-- The maker with the settings as it is given them replies as with the settings that follow the script; where these are not whole
+-- records, or more than 16, it is 12 in its place. Assumes nothing.
+use Prim.Native.Nat.{ℕ, _+_, _*_, _/_, _≤_, _<_}
+use mathlib.Core.Path.{_≡_, refl, sym, ap, _∙_}
+use mathlib.Core.Bool.{Bool, true, false, not, _&&_}
+use mathlib.Core.List.{List, [], _∷_}
+use mathlib.Core.Option.{Option, none, some}
+use mathlib.Core.Logic.{⊎-elim}
+use native.Mathlib.Omega.{arith}
+use lib.IntN.{ℤ, pos}
+use lib.ListN.{length, getD, List·getD-eq-default}
+use lib.Dec.{ltb, eqb}
+use borrow.Author.Tests.{ne-eqb, ltb-true, ltb-false}
+use Rattle.lambdamix.specs.Script.{Script}
+use Rattle.lambdamix.specs.Checker.{Refusal, annotationRefusal}
+use Rattle.lambdamix.specs.Structure.{orElse, oneIf}
+use Rattle.lambdamix.specs.Specializing.{Reply, unmade, staticInputs, refusedBy, callRefusal, unlessRefused, answerReply, specialized, make}
+use Rattle.lambdamix.proofs.Tests.{holds-or-fails}
+use Rattle.lambdamix.proofs.Range.{Fits}
+use Rattle.script.specs.File.{numbered}
+use Rattle.file.specs.Encodable.{AllBytes}
+use Rattle.file.proofs.ByteLaws.{value-small}
+use Rattle.file.proofs.RecordLaws.{numbered-length, numbered-at}
+use Rattle.respond.specs.Response.{programFuel, wholeSettings, settingAt, settings, settingsReply}
+use Rattle.respond.specs.Given.{givenBy, givenCount, givenSettings}
+use Rattle.respond.specs.Answers.{settingsRefusal}
+
+abbrev twelve : Option Refusal
+twelve = some (record { number = 12; place = 0 })
+
+-- ---- more settings than inputs
+
+static-few : (ts : List ℕ) → staticInputs ts ≤ length ts
+unfolding staticInputs oneIf
+static-few [] = omega arith
+static-few (t ∷ ts) = go (not (eqb t 1)) (static-few ts)
+  where
+    go : (b : Bool) → staticInputs ts ≤ length ts → oneIf b + staticInputs ts ≤ length (t ∷ ts)
+    go true h = omega arith
+    go false h = omega arith
+
+module _ (s : Script) (few : length (s .inputs) ≤ 16) where
+  too-many : (zs : List ℤ) → 16 < length zs → callRefusal s zs programFuel ≡ twelve
+  unfolding callRefusal refusedBy orElse
+  too-many zs h = rw (ne-eqb (length zs) (staticInputs (s .inputs)) (λ e. omega (arith, static-few (s .inputs))))
+
+  -- ---- the refusal of settings that are given
+
+  pub given-refusal : (bs : List ℕ) → callRefusal s (givenSettings bs) programFuel ≡ settingsRefusal (wholeSettings bs) s bs
+  unfolding givenSettings givenCount givenBy settingsRefusal settings
+  given-refusal bs = go (ltb (length bs / 6) 17) (wholeSettings bs) refl
+    where
+      many : 17 ≤ length bs / 6 → callRefusal s (settings bs) programFuel ≡ twelve
+      many h = too-many (settings bs) (omega (arith, numbered-length (settingAt bs) 0 (length bs / 6)))
+
+      bad : callRefusal s (numbered (settingAt bs) 0 17) programFuel ≡ twelve
+      bad = too-many (numbered (settingAt bs) 0 17) (omega (arith, numbered-length (settingAt bs) 0 17))
+
+      go :
+          (f w : Bool) → ltb (length bs / 6) 17 ≡ f →
+          callRefusal s (numbered (settingAt bs) 0 (givenBy (f && w) (length bs / 6))) programFuel ≡ settingsRefusal w s bs
+      go true true e = refl
+      go true false e = bad
+      go false true e = bad ∙ sym (many (ltb-false (length bs / 6) 17 e))
+      go false false e = bad
+
+-- ---- the reply
+
+module _ (s : Script) (zs : List ℤ) where
+  refused-reply : callRefusal s zs programFuel ≡ twelve → make s zs programFuel ≡ unlessRefused (annotationRefusal s) (unmade 12 0 0)
+  unfolding make unlessRefused orElse
+  refused-reply e = rw e (go (annotationRefusal s))
+    where
+      go :
+          (a : Option Refusal) →
+          unlessRefused (orElse a twelve) (answerReply (specialized s zs programFuel)) ≡ unlessRefused a (unmade 12 0 0)
+      go none = refl
+      go (some f) = refl
+
+pub given-reply : (s : Script) → length (s .inputs) ≤ 16 → (bs : List ℕ) → make s (givenSettings bs) programFuel ≡ settingsReply (wholeSettings bs) s bs
+unfolding givenSettings givenCount givenBy settingsReply settings
+given-reply s few bs = go (ltb (length bs / 6) 17) (wholeSettings bs) refl
+  where
+    bad : make s (numbered (settingAt bs) 0 17) programFuel ≡ unlessRefused (annotationRefusal s) (unmade 12 0 0)
+    bad =
+        refused-reply s (numbered (settingAt bs) 0 17)
+        (too-many s few (numbered (settingAt bs) 0 17) (omega (arith, numbered-length (settingAt bs) 0 17)))
+
+    many : 17 ≤ length bs / 6 → make s (settings bs) programFuel ≡ unlessRefused (annotationRefusal s) (unmade 12 0 0)
+    many h =
+        refused-reply s (settings bs)
+        (too-many s few (settings bs) (omega (arith, numbered-length (settingAt bs) 0 (length bs / 6))))
+
+    go :
+        (f w : Bool) → ltb (length bs / 6) 17 ≡ f →
+        make s (numbered (settingAt bs) 0 (givenBy (f && w) (length bs / 6))) programFuel ≡ settingsReply w s bs
+    go true true e = refl
+    go true false e = bad
+    go false true e = bad ∙ sym (many (ltb-false (length bs / 6) 17 e))
+    go false false e = bad
+
+-- more than 16 settings are 12, whatever they are
+pub many-settings :
+    (s : Script) → length (s .inputs) ≤ 16 → (bs : List ℕ) → 17 ≤ length bs / 6 →
+    settingsReply (wholeSettings bs) s bs ≡ unlessRefused (annotationRefusal s) (unmade 12 0 0)
+unfolding settingsReply settings
+many-settings s few bs h = go (wholeSettings bs)
+  where
+    go : (w : Bool) → settingsReply w s bs ≡ unlessRefused (annotationRefusal s) (unmade 12 0 0)
+    go true =
+        refused-reply s (settings bs)
+        (too-many s few (settings bs) (omega (arith, numbered-length (settingAt bs) 0 (length bs / 6))))
+    go false = refl
+
+-- settings have 32 bits
+pub settings-fit : (bs : List ℕ) → AllBytes bs → (i : ℕ) → Fits (getD (givenSettings bs) i (pos 0))
+unfolding givenSettings settingAt
+settings-fit bs all i = ⊎-elim inside outside (holds-or-fails (ltb i (givenCount bs)))
+  where
+    inside : ltb i (givenCount bs) ≡ true → Fits (getD (numbered (settingAt bs) 0 (givenCount bs)) i (pos 0))
+    inside e =
+        rw (numbered-at (settingAt bs) (pos 0) (givenCount bs) i (ltb-true i (givenCount bs) e))
+        (record { within = value-small all (6 * i + 2) })
+
+    outside : ltb i (givenCount bs) ≡ false → Fits (getD (numbered (settingAt bs) 0 (givenCount bs)) i (pos 0))
+    outside e =
+        let past : length (numbered (settingAt bs) 0 (givenCount bs)) ≤ i =
+        omega (arith, ltb-false i (givenCount bs) e, numbered-length (settingAt bs) 0 (givenCount bs)) in
+        rw (List·getD-eq-default (numbered (settingAt bs) 0 (givenCount bs)) (pos 0) past) (record { within = omega arith })

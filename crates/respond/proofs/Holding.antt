@@ -1,0 +1,174 @@
+-- Tables that the reader filled hold the file, and its listing is printed behind the counts. Assumes nothing.
+use Prim.Native.Nat.{ℕ, _+_, _-_, _≤_, min}
+use mathlib.Core.Path.{_≡_, refl, sym, ap, _∙_}
+use mathlib.Core.Bool.{true, _&&_}
+use mathlib.Core.List.{List, [], _∷_, _++_, map}
+use mathlib.Core.Option.{Option, none, some}
+use native.Mathlib.Omega.{arith}
+use lib.IntN.{ℤ}
+use lib.ListN.{length, take, drop, length-append, length-drop, length-map}
+use lib.Dec.{leb}
+use borrow.Author.Tests.{le-leb, leb-true}
+use Rattle.lambdamix.specs.Script.{Script, FunctionType, Node, nodeCount}
+use Rattle.lambdamix.specs.Checker.{Refusal}
+use Rattle.lambdamix.specs.Structure.{orElse}
+use Rattle.lambdamix.specs.Listing.{listing}
+use Rattle.lambdamix.proofs.Tests.{and-both, and-intro}
+use Rattle.script.specs.declared.Counts.{Counts}
+use Rattle.script.specs.declared.Refusal as Told
+use Rattle.script.specs.declared.Reading.{Reading}
+use Rattle.script.specs.declared.Reading.the-variants as Reading
+use Rattle.script.specs.File.{fileLength, headTypes, headInputs, headNodes, scriptIn}
+use Rattle.script.specs.Refusals.{refusedUnless, fileRefusal}
+use Rattle.file.specs.Heads.{headCounts}
+use Rattle.file.specs.Encodable.{AllBytes}
+use Rattle.script.specs.Tables.{Tables, tablesScript, over, filled, longEnough, readRefusal, readTables}
+use Rattle.script.specs.Replies.{reading, Reads}
+use Rattle.file.proofs.ContentLaws.{in-limits}
+use Rattle.file.proofs.FillLaws.{file-held}
+use Rattle.file.proofs.FileLaws.{read-fits}
+use Rattle.printer.specs.Answers.{tablesText}
+use Rattle.printer.proofs.Writing.{join}
+use Rattle.printer.proofs.ListingBound.{listing-bytes}
+use Rattle.respond.specs.Stages.{Prints, countsText, CountsPlaced, ListsAt, ListedAt, ListsFile, PrintsMade, Held}
+use Rattle.respond.proofs.Files.{script-counts, file-passes, script-passes, long-for, held-passes}
+use Rattle.respond.proofs.Splitting.{front-part}
+
+-- ---- columns that are filled stay as long as they are
+
+still-long :
+    {A : Type 0} (k : ℕ) (new old : List A) → length new ≤ k → leb k (length old) ≡ true → leb k (length (over new old)) ≡ true
+unfolding over
+still-long k new old h e =
+    le-leb k (length (new ++ drop (length new) old)) (simp (length-append, length-drop) (omega (arith, leb-true k (length old) e)))
+
+filled-long :
+    (s : Script) (x : Tables) → length (s .types) ≤ 64 → length (s .inputs) ≤ 16 → length (s .nodes) ≤ 4096 →
+    longEnough 64 16 4096 x ≡ true → longEnough 64 16 4096 (filled s x) ≡ true
+unfolding longEnough filled
+filled-long s x t i n e =
+    let (types, rest) = and-both _ _ e in
+    let (inputs, nodes) = and-both _ _ rest in
+    let (two, three) = and-both _ _ nodes in
+    let (ps, rs) = and-both _ _ types in
+    let (ks, xs) = and-both _ _ two in
+    let (ys, others) = and-both _ _ three in
+    let (zs, vs) = and-both _ _ others in
+    and-intro
+    (and-intro (typed (λ (u : FunctionType). u .parameter) (x .parameters) ps) (typed (λ (u : FunctionType). u .result) (x .results) rs))
+    (and-intro (still-long 16 (s .inputs) (x .inputs) i inputs)
+    (and-intro (and-intro (noded (λ (d : Node). d .kind) (x .kinds) ks) (noded (λ (d : Node). d .a) (x .a) xs))
+    (and-intro (noded (λ (d : Node). d .b) (x .b) ys)
+    (and-intro (noded (λ (d : Node). d .c) (x .c) zs) (noded (λ (d : Node). d .value) (x .values) vs)))))
+  where
+    typed : (f : FunctionType → ℕ) (old : List ℕ) → leb 64 (length old) ≡ true → leb 64 (length (over (map f (s .types)) old)) ≡ true
+    typed f old h = still-long 64 (map f (s .types)) old (omega (arith, length-map (s .types) f)) h
+
+    noded :
+        {A : Type 0} (f : Node → A) (old : List A) → leb 4096 (length old) ≡ true →
+        leb 4096 (length (over (map f (s .nodes)) old)) ≡ true
+    noded f old h = still-long 4096 (map f (s .nodes)) old (omega (arith, length-map (s .nodes) f)) h
+
+-- ---- the reader's answer, where the tables are long enough for every file
+
+refused-not-read : {f : Told.Refusal} {n : Counts} → Reading.Refused f ≡ Reading.Read n → ⊥
+refused-not-read e = let z : _≡_ {A = ℕ} 0 1 = cc in omega arith
+
+module _ {bs : List ℕ} {x y : Tables} {r : Reading} (room : longEnough 64 16 4096 x ≡ true) (reads : Reads bs x y r) where
+  not-short : fileRefusal bs ≡ none → readRefusal bs x ≡ none
+  unfolding readRefusal refusedUnless orElse
+  not-short e = rw (e, long-for (headTypes bs) (headInputs bs) (headNodes bs) x (file-passes bs e .counts) room)
+
+  pub read-passes : {n : Counts} → r ≡ Reading.Read n → fileRefusal bs ≡ none
+  unfolding readRefusal reading orElse
+  read-passes {n} q = go (fileRefusal bs) refl
+    where
+      go : (f : Option Refusal) → fileRefusal bs ≡ f → f ≡ none
+      go none e = refl
+      go (some g) e = absurd (refused-not-read (sym (rw e at (reads .reply)) ∙ q))
+
+  pub read-refused :
+      {f : Told.Refusal} → r ≡ Reading.Refused f → fileRefusal bs ≡ some (record { number = f .number; place = f .place })
+  unfolding readRefusal reading orElse
+  read-refused {f} q = go (fileRefusal bs) refl
+    where
+      go : (g : Option Refusal) → fileRefusal bs ≡ g → g ≡ some (record { number = f .number; place = f .place })
+      go none e = absurd (refused-not-read (sym q ∙ rw (not-short e) at (reads .reply)))
+      go (some g) e =
+          let u : Reading.Refused f ≡ Reading.Refused (record { number = g .number; place = g .place }) = sym q ∙ rw e at (reads .reply) in
+          let v : f ≡ record { number = g .number; place = g .place } = cc in
+          ap (λ (w : Told.Refusal). some (record { number = w .number; place = w .place })) (sym v)
+
+  pub held : AllBytes bs → {n : Counts} → r ≡ Reading.Read n → Held bs n y
+  unfolding reading readTables headCounts
+  held all {n} q =
+      let e : fileRefusal bs ≡ none = read-passes q in
+      let none-told : readRefusal bs x ≡ none = not-short e in
+      let u : Reading.Read n ≡ Reading.Read (headCounts bs) = sym q ∙ rw none-told at (reads .reply) in
+      let counts : n ≡ headCounts bs = cc in
+      let tables : y ≡ filled (scriptIn bs) x = rw none-told at (reads .tables) in
+      let c = script-counts bs in
+      let l = in-limits (headTypes bs) (headInputs bs) (headNodes bs) (file-passes bs e .counts) in
+      record {
+        bytes = all;
+        read = e;
+        counts = counts;
+        script = rw (counts, tables) (file-held bs x);
+        room =
+            rw tables
+            (filled-long (scriptIn bs) x (omega (arith, c .0, l .types)) (omega (arith, c .1, l .inputs)) (omega (arith, c .2, l .nodes))
+            room);
+      }
+
+-- ---- the listing of a file
+
+file-bytes : (bs : List ℕ) → AllBytes bs → fileRefusal bs ≡ none → length (listing (scriptIn bs)) ≤ 53249
+unfolding nodeCount
+file-bytes bs all e =
+    let c = script-counts bs in
+    let l = in-limits (headTypes bs) (headInputs bs) (headNodes bs) (file-passes bs e .counts) in
+    omega (arith, listing-bytes (scriptIn bs) (read-fits bs all) (script-passes bs e), c .2, l .nodes)
+
+module _ {bs : List ℕ} {x y : Tables} {r : Reading} {at : ℕ} {before : List ℕ} (reads : Reads bs x y r) where
+  pub file-listed :
+      {n : Counts} {after : List ℕ} {e : ℕ} → AllBytes bs → r ≡ Reading.Read n → ListsAt n y at before after e →
+      ListsFile bs x at before after e
+  unfolding tablesText
+  file-listed {n} all q l =
+      record {
+        lists = λ passed room enough.
+            let h : Held bs n y = held room reads all q in
+            let text : tablesText n y ≡ listing (scriptIn bs) = ap listing (h .script) in
+            let short = file-bytes bs all passed in
+            record {
+              short = short;
+              placed = rw text at (l .lists (held-passes h) (rw text (omega arith)));
+            };
+      }
+
+  pub file-never : {f : Told.Refusal} {after : List ℕ} {e : ℕ} → r ≡ Reading.Refused f → ListsFile bs x at before after e
+  file-never q =
+      record {
+        lists = λ passed room enough.
+            let u : fileRefusal bs ≡ some _ = read-refused room reads q in
+            let w : _≡_ {A = ℕ} 0 1 = cc in
+            let v : ⊥ = omega arith in
+            absurd v;
+      }
+
+-- ---- the counts and the listing
+
+pub made-printed :
+    {i k n size end at r : ℕ} {file x x₁ y : List ℕ} {t : Tables} →
+    end ≡ min size (length file) → size ≡ fileLength 0 i n → length x₁ ≡ length x → CountsPlaced k n x x₁ at →
+    ListsFile (take (end - 0) (drop 0 file)) t at x₁ y r → PrintsMade i k n file t x y r
+made-printed {i} {k} {n} {file = file} e s same c l =
+    let part = front-part (fileLength 0 i n) file (e ∙ ap (λ (m : ℕ). min m (length file)) s) in
+    record {
+      prints = λ passed room wide.
+          let g = (rw part at l) .lists passed room (omega (arith, c .placed .counted, c .short)) in
+          record {
+            short = simp length-append (omega (arith, c .short, g .short));
+            placed = join (c .placed) (g .placed);
+          };
+    }

@@ -1,0 +1,10 @@
+pub mod Splitting
+pub mod Lines
+pub mod GivenSettings
+pub mod Files
+pub mod Holding
+pub mod Making
+pub mod ValuesFit
+pub mod Answering
+pub mod Responding
+pub mod Longer

@@ -1,0 +1,112 @@
+-- The lines that are printed, put together from their parts, and the listing behind them. Assumes nothing.
+use Prim.Native.Nat.{ℕ, _+_, _-_, _≤_, _<_, min}
+use mathlib.Core.Path.{_≡_, refl, sym, ap, _∙_}
+use mathlib.Core.Bool.{Bool, true, false}
+use mathlib.Core.List.{List, [], _∷_, _++_, append-assoc}
+use mathlib.Core.Option.{none}
+use native.Mathlib.Omega.{arith}
+use lib.ListN.{length, take, drop, length-append, length-take, length-drop}
+use lib.Dec.{ltb}
+use borrow.Author.Tests.{le-leb}
+use Rattle.lambdamix.specs.Structure.{orElse}
+use Rattle.lambdamix.specs.Text.{ascii, digits}
+use Rattle.script.specs.declared.Counts.{Counts}
+use Rattle.script.specs.declared.Refusal as Told
+use Rattle.script.specs.Refusals.{refusedUnless}
+use Rattle.script.specs.Tables.{Tables, tablesRefusal}
+use Rattle.printer.specs.declared.Listing.{Listing}
+use Rattle.printer.specs.declared.Listing.the-variants.{Listed, Refused}
+use Rattle.printer.specs.Places.{Put, Placed, most}
+use Rattle.printer.specs.Answers.{tablesText, roomRefusal, listRefusal, listed, listedOutput, ListsTables}
+use Rattle.printer.proofs.Digits.{digits-within}
+use Rattle.printer.proofs.Writing.{placed, join}
+use Rattle.respond.specs.Response.{unmadeText}
+use Rattle.respond.specs.Stages.{Prints, opening, countsText, CountsPlaced, ListsAt}
+
+regroup : (a b c d e : List ℕ) → (((a ++ b) ++ c) ++ d) ++ e ≡ a ++ (b ++ (c ++ (d ++ e)))
+regroup a b c d e = simp append-assoc
+
+-- ---- number and place
+
+unmade-text : (b : Bool) (n p : ℕ) → (((opening b ++ digits n) ++ (32 ∷ [])) ++ digits p) ++ (10 ∷ []) ≡ unmadeText b n p
+unfolding opening unmadeText ascii
+unmade-text true n p = regroup (ascii "refused ") (digits n) (32 ∷ []) (digits p) (10 ∷ [])
+unmade-text false n p = regroup (ascii "accepted\nstopped ") (digits n) (32 ∷ []) (digits p) (10 ∷ [])
+
+opening-short : (b : Bool) → length (opening b) ≤ 17
+unfolding opening ascii
+opening-short true = omega arith
+opening-short false = omega arith
+
+unmade-short : (b : Bool) (n p : ℕ) → n < 256 → p < 18446744073709551616 → length (unmadeText b n p) ≤ 65536
+unmade-short b n p h k =
+    rw (← unmade-text b n p)
+    (simp length-append
+    (omega (arith, opening-short b, digits-within 19 n (omega arith), digits-within 19 p (omega arith))))
+
+pub prints-unmade :
+    (n p : ℕ) → n < 256 → p < 18446744073709551616 → {x x₁ x₂ x₃ x₄ y : List ℕ} {a b c d r : ℕ} →
+    Placed (opening (ltb n 20)) 0 x x₁ a → Placed (digits n) a x₁ x₂ b → Placed (32 ∷ []) b x₂ x₃ c →
+    Placed (digits p) c x₃ x₄ d → Placed (10 ∷ []) d x₄ y r → Prints (unmadeText (ltb n 20) n p) x y r
+prints-unmade n p h k one two three four five =
+    record {
+      short = unmade-short (ltb n 20) n p h k;
+      placed = rw (unmade-text (ltb n 20) n p) at (join (join (join (join one two) three) four) five);
+    }
+
+-- ---- steps and nodes
+
+counts-short : (k n : ℕ) → k < 65536 → n < 65536 → length (countsText k n) ≤ 64
+unfolding countsText ascii
+counts-short k n h l =
+    simp length-append (omega (arith, digits-within 4 k (omega arith), digits-within 4 n (omega arith)))
+
+pub counts-placed :
+    (k n : ℕ) → k < 65536 → n < 65536 → {x x₁ x₂ x₃ x₄ y : List ℕ} {a b c d r : ℕ} →
+    Placed (ascii "accepted\nsteps ") 0 x x₁ a → Placed (digits k) a x₁ x₂ b → Placed (ascii "\nnodes ") b x₂ x₃ c →
+    Placed (digits n) c x₃ x₄ d → Placed (ascii "\n") d x₄ y r → CountsPlaced k n x y r
+unfolding countsText
+counts-placed k n h l one two three four five =
+    record { short = counts-short k n h l; placed = join (join (join (join one two) three) four) five }
+
+-- ---- a listing behind them
+
+no-refusal :
+    (n : Counts) (t : Tables) (out : List ℕ) → tablesRefusal (n .types) (n .inputs) (n .nodes) t ≡ none →
+    length (tablesText n t) ≤ length out → listRefusal n t out ≡ none
+unfolding listRefusal roomRefusal refusedUnless orElse
+no-refusal n t out e h = rw (e, le-leb (length (tablesText n t)) (length out) h)
+
+rest-room :
+    (at from : ℕ) (text x : List ℕ) → from ≡ min at (length x) → at + length text ≤ length x →
+    length text ≤ length (take (length x - from) (drop from x))
+rest-room at from text x f h = simp (length-take, length-drop) (omega arith)
+
+module _ {n : Counts} {t : Tables} {x y : List ℕ} {at from : ℕ} {r : Listing}
+    (f : from ≡ min at (length x)) (l : ListsTables n t (take (length x - from) (drop from x)) y r) where
+  pub lists-at :
+      {k e : ℕ} → r ≡ Listed k → e ≡ min (at + k) most →
+      ListsAt n t at x (take from x ++ (y ++ drop (length x - from) (drop from x))) e
+  unfolding listed listedOutput
+  lists-at {k} q d = record { lists = λ passed room. placed f (put passed room) d }
+    where
+      put :
+          tablesRefusal (n .types) (n .inputs) (n .nodes) t ≡ none → at + length (tablesText n t) ≤ length x →
+          Put (tablesText n t) (take (length x - from) (drop from x)) y k
+      put passed room =
+          let e = no-refusal n t (take (length x - from) (drop from x)) passed (rest-room at from (tablesText n t) x f room) in
+          let g : r ≡ Listed (length (tablesText n t)) = rw e at (l .reply) in
+          let o : y ≡ listedOutput none (tablesText n t) (take (length x - from) (drop from x)) = rw e at (l .output) in
+          record { counted = cc; stands = λ h. o }
+
+  pub lists-never : {g : Told.Refusal} {z : List ℕ} {e : ℕ} → r ≡ Refused g → ListsAt n t at x z e
+  unfolding listed
+  lists-never q =
+      record {
+        lists = λ passed room.
+            let e = no-refusal n t (take (length x - from) (drop from x)) passed (rest-room at from (tablesText n t) x f room) in
+            let g : r ≡ Listed (length (tablesText n t)) = rw e at (l .reply) in
+            let w : _≡_ {A = ℕ} 0 1 = cc in
+            let v : ⊥ = omega arith in
+            absurd v;
+      }

@@ -1,0 +1,161 @@
+-- Inputs of any length are answered by their first 65,536 bytes: a right head's script ends before them, and what follows it is
+-- then too much for settings; a wrong head is told alone. Assumes nothing.
+use Prim.Native.Nat.{ℕ, _+_, _-_, _*_, _/_, _≤_, _<_}
+use mathlib.Core.Path.{_≡_, refl, sym, ap, ap₂, _∙_}
+use mathlib.Core.Bool.{Bool, true, false, _&&_, true≢false}
+use mathlib.Core.List.{List}
+use mathlib.Core.Option.{Option, none, some}
+use native.Mathlib.Omega.{arith}
+use lib.ListN.{length, take, drop, length-take, length-drop}
+use lib.Seq.{take-all, take-take, getD-take, length-take-le}
+use lib.Dec.{leb, ltb}
+use borrow.Author.Tests.{le-leb}
+use Rattle.lambdamix.specs.Checker.{Refusal, annotationRefusal}
+use Rattle.lambdamix.specs.Structure.{orElse}
+use Rattle.lambdamix.specs.Specializing.{unmade, unlessRefused}
+use Rattle.lambdamix.proofs.Tests.{and-both}
+use Rattle.script.specs.Bytes.{byteAt, word16}
+use Rattle.script.specs.File.{fileLength, nodeOffset, headTypes, headInputs, headNodes, scriptIn}
+use Rattle.script.specs.Refusals.{refusedUnless, marked, headMarked, countsRight, fileRefusal}
+use Rattle.file.proofs.ContentLaws.{in-limits}
+use Rattle.respond.specs.Response.{headRight, scriptLengthBy, scriptLength, scriptPart, settingsPart, wholeSettings, settingsReply, inputReply, replyTo, unmadeText, replyText, response}
+use Rattle.respond.proofs.Files.{few-inputs}
+use Rattle.respond.proofs.GivenSettings.{many-settings}
+
+-- ---- the response by the file's refusal
+
+module _ (bs : List ℕ) where
+  refused-response :
+      (f : Refusal) → fileRefusal (scriptPart bs) ≡ some f → response bs ≡ unmadeText (ltb (f .number) 20) (f .number) (f .place)
+  unfolding response replyTo inputReply replyText
+  refused-response f e = rw e
+
+  twelve-response :
+      fileRefusal (scriptPart bs) ≡ none → 17 ≤ length (settingsPart bs) / 6 →
+      response bs ≡ replyText (scriptIn (scriptPart bs)) (unlessRefused (annotationRefusal (scriptIn (scriptPart bs))) (unmade 12 0 0))
+  unfolding response replyTo inputReply
+  twelve-response e h =
+      rw e (ap (replyText (scriptIn (scriptPart bs))) (many-settings (scriptIn (scriptPart bs)) (few-inputs (scriptPart bs) e) (settingsPart bs) h))
+
+-- ---- the head
+
+headFault : Bool → Refusal
+headFault true = record { number = 3; place = 0 }
+headFault false = record { number = 2; place = 0 }
+
+wrong-head :
+    (bs : List ℕ) → 8 ≤ length bs → headRight bs ≡ false → fileRefusal bs ≡ some (headFault (headMarked bs 0))
+unfolding headRight fileRefusal refusedUnless orElse headFault
+wrong-head bs h e = go (headMarked bs 0) (countsRight (headTypes bs) (headInputs bs) (headNodes bs)) _ (rw (le-leb 8 (length bs) h) at e)
+  where
+    go :
+        (m c : Bool) (r : Option Refusal) → (m && c) ≡ false →
+        orElse (refusedUnless (leb 8 (length bs)) 1 (length bs)) (orElse (refusedUnless m 2 0) (orElse (refusedUnless c 3 0) r)) ≡ some (headFault m)
+    go true true r f = absurd (true≢false f)
+    go true false r f = rw (le-leb 8 (length bs) h)
+    go false c r f = rw (le-leb 8 (length bs) h)
+
+-- without a right head the whole input is the script
+whole-script : (bs : List ℕ) → headRight bs ≡ false → scriptPart bs ≡ bs
+unfolding scriptPart scriptLength scriptLengthBy
+whole-script bs e = rw e (take-all (length bs) bs (omega arith))
+
+wrong-told :
+    (bs : List ℕ) → 8 ≤ length bs → headRight bs ≡ false → fileRefusal (scriptPart bs) ≡ some (headFault (headMarked bs 0))
+wrong-told bs h e = ap fileRefusal (whole-script bs e) ∙ wrong-head bs h e
+
+right-counts : (bs : List ℕ) → headRight bs ≡ true → countsRight (headTypes bs) (headInputs bs) (headNodes bs) ≡ true
+unfolding headRight
+right-counts bs e =
+    and-both (headMarked bs 0) (countsRight (headTypes bs) (headInputs bs) (headNodes bs))
+    (and-both (leb 8 (length bs)) (headMarked bs 0 && countsRight (headTypes bs) (headInputs bs) (headNodes bs)) e .1) .1
+
+module _ (bs : List ℕ) (long : 65536 ≤ length bs) where
+  abbrev front : List ℕ
+  front = take 65536 bs
+
+  front-length : length front ≡ 65536
+  front-length = length-take-le 65536 bs long
+
+  word-same : (o : ℕ) → o < 8 → word16 front o ≡ word16 bs o
+  unfolding word16 byteAt
+  word-same o h = rw (getD-take 65536 bs o 0 (omega arith), getD-take 65536 bs (o + 1) 0 (omega arith))
+
+  types-same : headTypes front ≡ headTypes bs
+  unfolding headTypes
+  types-same = word-same 2 (omega arith)
+
+  inputs-same : headInputs front ≡ headInputs bs
+  unfolding headInputs
+  inputs-same = word-same 4 (omega arith)
+
+  nodes-same : headNodes front ≡ headNodes bs
+  unfolding headNodes
+  nodes-same = word-same 6 (omega arith)
+
+  mark-same : headMarked front 0 ≡ headMarked bs 0
+  unfolding marked byteAt
+  mark-same = rw (getD-take 65536 bs 0 0 (omega arith), getD-take 65536 bs 1 0 (omega arith))
+
+  right-same : headRight front ≡ headRight bs
+  unfolding headRight
+  right-same =
+      rw (le-leb 8 (length front) (omega (arith, front-length)), le-leb 8 (length bs) (omega arith), mark-same, types-same, inputs-same, nodes-same)
+
+  -- ---- a right head
+
+  module _ (right : headRight bs ≡ true) where
+    abbrev size : ℕ
+    size = fileLength (headTypes bs) (headInputs bs) (headNodes bs)
+
+    size-small : size ≤ 53704
+    unfolding fileLength nodeOffset
+    size-small =
+        let l = in-limits (headTypes bs) (headInputs bs) (headNodes bs) (right-counts bs right) in
+        omega (arith, l .types, l .inputs, l .nodes)
+
+    length-bs : scriptLength bs ≡ size
+    unfolding scriptLength scriptLengthBy
+    length-bs = rw right
+
+    length-front : scriptLength front ≡ size
+    unfolding scriptLength scriptLengthBy
+    length-front = rw (right-same, right, types-same, inputs-same, nodes-same)
+
+    script-same : scriptPart front ≡ scriptPart bs
+    unfolding scriptPart
+    script-same = rw (length-front, length-bs) (take-take size 65536 bs (omega (arith, size-small)))
+
+    many-bs : 17 ≤ length (settingsPart bs) / 6
+    unfolding settingsPart
+    many-bs = rw (length-bs, length-drop size bs) (omega (arith, size-small))
+
+    many-front : 17 ≤ length (settingsPart front) / 6
+    unfolding settingsPart
+    many-front = rw (length-front, length-drop size front, front-length) (omega (arith, size-small))
+
+    right-response : response front ≡ response bs
+    right-response = go (fileRefusal (scriptPart bs)) refl
+      where
+        go : (r : Option Refusal) → fileRefusal (scriptPart bs) ≡ r → response front ≡ response bs
+        go none e =
+            twelve-response front (rw script-same e) many-front
+            ∙ rw script-same (sym (twelve-response bs e many-bs))
+        go (some f) e = refused-response front f (rw script-same e) ∙ sym (refused-response bs f e)
+
+  -- ---- a wrong head
+
+  wrong-response : headRight bs ≡ false → response front ≡ response bs
+  wrong-response wrong =
+      let f : Refusal = headFault (headMarked bs 0) in
+      refused-response front f
+      (wrong-told front (omega (arith, front-length)) (right-same ∙ wrong) ∙ ap (λ (b : Bool). some (headFault b)) mark-same)
+      ∙ sym (refused-response bs f (wrong-told bs (omega arith) wrong))
+
+  -- The first 65,536 bytes decide.
+  pub longer-input : response front ≡ response bs
+  longer-input = go (headRight bs) refl
+    where
+      go : (b : Bool) → headRight bs ≡ b → response front ≡ response bs
+      go true e = right-response e
+      go false e = wrong-response e

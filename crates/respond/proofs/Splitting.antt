@@ -1,0 +1,115 @@
+-- Where the script ends, and how many settings are given, by the tests of the code. Assumes nothing.
+use Prim.Native.Nat.{ℕ, _+_, _-_, _*_, _/_, _%_, _≤_, min}
+use mathlib.Core.Path.{_≡_, refl, sym, ap, _∙_}
+use mathlib.Core.Bool.{Bool, true, false, _&&_}
+use mathlib.Core.List.{List}
+use native.Mathlib.Omega.{arith}
+use lib.IntN.{ℤ}
+use lib.ListN.{length, take, drop, length-drop, drop-of-length-le, List·getD-eq-default}
+use lib.Seq.{take-at, take-all}
+use lib.Dec.{leb, ltb, eqb}
+use borrow.Author.Tests.{ltb-true, leb-true, leb-false}
+use Rattle.lambdamix.specs.Structure.{firstFailing}
+use Rattle.script.specs.declared.Counts.{Counts}
+use Rattle.script.specs.Bytes.{byteAt, word16}
+use Rattle.file.specs.Encodable.{AllBytes}
+use Rattle.script.specs.File.{numbered, fileLength, nodeOffset, headTypes, headInputs, headNodes}
+use Rattle.script.specs.Refusals.{headMarked, countsRight, isNone}
+use Rattle.script.specs.Tables.{Tables, over}
+use Rattle.file.proofs.RecordLaws.{numbered-length}
+use Rattle.specializer.specs.Making.{Stores}
+use Rattle.specializer.specs.declared.Reply.{Reply}
+use Rattle.specializer.specs.Entry.{Makes}
+use Rattle.respond.specs.Response.{programFuel, headRight, scriptLengthBy, scriptLength, wholeSettings, settingMarked, settingAt}
+use Rattle.respond.specs.Given.{givenBy, givenCount, givenSettings}
+
+-- a list without elements holds bytes: zeros
+pub empty-bytes : {bs : List ℕ} → length bs ≤ 0 → AllBytes bs
+unfolding byteAt
+empty-bytes {bs} h =
+    record {
+      below = λ i. let past : length bs ≤ i = omega arith in rw (List·getD-eq-default bs 0 past) (omega arith);
+    }
+
+module _ (bs : List ℕ) where
+  pub length-by :
+      {a b c : Bool} → leb 8 (length bs) ≡ a → headMarked bs 0 ≡ b → countsRight (headTypes bs) (headInputs bs) (headNodes bs) ≡ c →
+      scriptLengthBy (a && (b && c)) bs ≡ scriptLength bs
+  unfolding scriptLength headRight
+  length-by p q r = rw (p, q, r)
+
+  module _ {t i n : ℕ} (et : t ≡ word16 bs 2) (ei : i ≡ word16 bs 4) (en : n ≡ word16 bs 6) where
+    pub head-length : 8 + 6 * t + 4 * i + 13 * n ≡ fileLength (headTypes bs) (headInputs bs) (headNodes bs)
+    unfolding fileLength nodeOffset headTypes headInputs headNodes
+    head-length = rw (et, ei, en)
+
+    pub head-counts : {x b : Bool} → x ≡ countsRight t i n → x ≡ b → countsRight (headTypes bs) (headInputs bs) (headNodes bs) ≡ b
+    unfolding headTypes headInputs headNodes
+    head-counts p q = rw (← et, ← ei, ← en) (sym p ∙ q)
+
+  pub given-by :
+      {f m a : Bool} → ltb (length bs / 6) 17 ≡ f → eqb (length bs % 6) 0 ≡ m →
+      isNone (firstFailing (settingMarked bs) 0 (length bs / 6)) ≡ a → givenBy (f && (m && a)) (length bs / 6) ≡ givenCount bs
+  unfolding givenCount wholeSettings
+  given-by p q r = rw (p, q, r)
+
+  pub given-most : givenCount bs ≤ 17
+  unfolding givenCount givenBy
+  given-most = go (ltb (length bs / 6) 17) (wholeSettings bs) refl
+    where
+      go : (f w : Bool) → ltb (length bs / 6) 17 ≡ f → givenBy (f && w) (length bs / 6) ≤ 17
+      go true true e = omega (arith, ltb-true (length bs / 6) 17 e)
+      go true false e = omega arith
+      go false w e = omega arith
+
+-- the first settings of those that were decoded are those that are given
+decoded :
+    {ws : List ℤ} {count : ℕ} (zs : List ℤ) (rest : List ℕ) → count ≡ givenCount rest → ws ≡ over (numbered (settingAt rest) 0 count) zs →
+    take (count - 0) (drop 0 ws) ≡ givenSettings rest
+unfolding givenSettings over
+decoded {ws} {count} zs rest e d =
+    let z : count - 0 ≡ count = omega arith in
+    ap (λ (k : ℕ). take k ws) z
+    ∙ ap (take count) d
+    ∙ take-at (numbered (settingAt rest) 0 count) _ count (numbered-length (settingAt rest) 0 count)
+    ∙ ap (numbered (settingAt rest) 0) e
+
+pub makes-given :
+    {n : Counts} {x : Tables} {file made : List ℕ} {ws : List ℤ} {count : ℕ} {before after : Stores} {r : Reply} →
+    (zs : List ℤ) (rest : List ℕ) →
+    count ≡ givenCount rest → ws ≡ over (numbered (settingAt rest) 0 count) zs →
+    Makes false n x (take (count - 0) (drop 0 ws)) 4000 before after file made r →
+    Makes false n x (givenSettings rest) programFuel before after file made r
+unfolding programFuel
+makes-given zs rest e d m = rw (decoded zs rest e d) at m
+
+-- ---- parts of a slice
+
+take-least : {A : Type 0} (m : ℕ) (l : List A) → take (min m (length l)) l ≡ take m l
+take-least m l = go (leb m (length l)) refl
+  where
+    go : (b : Bool) → leb m (length l) ≡ b → take (min m (length l)) l ≡ take m l
+    go true e = let z : min m (length l) ≡ m = omega (arith, leb-true m (length l) e) in ap (λ (k : ℕ). take k l) z
+    go false e =
+        take-all (min m (length l)) l (omega (arith, leb-false m (length l) e))
+        ∙ sym (take-all m l (omega (arith, leb-false m (length l) e)))
+
+-- what stands before a place that is no further than the end
+pub front-part :
+    {A : Type 0} {end : ℕ} (m : ℕ) (l : List A) → end ≡ min m (length l) → take (end - 0) (drop 0 l) ≡ take m l
+front-part {end} m l e =
+    let z : end - 0 ≡ min m (length l) = omega arith in
+    ap (λ (k : ℕ). take k l) z ∙ take-least m l
+
+-- and what stands behind it
+pub back-part :
+    {A : Type 0} {end last : ℕ} (m : ℕ) (l : List A) → end ≡ min m (length l) → last ≡ length l →
+    take (last - end) (drop end l) ≡ drop m l
+back-part {end} {last} m l e f =
+    take-all (last - end) (drop end l) (rw (length-drop end l) (omega arith)) ∙ ap (λ (k : ℕ). drop k l) e ∙ go (leb m (length l)) refl
+  where
+    go : (b : Bool) → leb m (length l) ≡ b → drop (min m (length l)) l ≡ drop m l
+    go true h = let z : min m (length l) ≡ m = omega (arith, leb-true m (length l) h) in ap (λ (k : ℕ). drop k l) z
+    go false h =
+        drop-of-length-le l {i = min m (length l)} (omega (arith, leb-false m (length l) h))
+        ∙ sym (drop-of-length-le l {i = m} (omega (arith, leb-false m (length l) h)))

@@ -1,0 +1,61 @@
+// The settings behind a script: a record `SV` for each.
+use crate::split::is_marked;
+use file::bytes::value32;
+use script::column::put32;
+ghost use mathlib.Core.Path.{_≡_};
+ghost use Prim.Native.Nat.{_<_, _≤_};
+ghost use lib.ListN.{length};
+ghost use Rattle.lambdamix.specs.Structure.{firstFailing};
+ghost use Rattle.script.specs.File.{numbered};
+ghost use Rattle.script.specs.Refusals.{isNone};
+ghost use Rattle.script.specs.Tables.{over};
+ghost use Rattle.respond.specs.Response.{settingMarked, settingAt};
+ghost use Rattle.respond.specs.Given.{givenCount};
+
+// Whether each of some records has its mark.
+fn all_marked(s: &[u8], count: usize) -> bool
+    requires { ⌜ count < 17 ⌝ }
+    ensures { λ r. ⌜ r ≡ isNone (firstFailing (settingMarked (now (s .entry))) 0 count) ⌝ }
+{
+    let mut j = 0;
+    while j < count {
+        if is_marked(s, 6 * j, b'S', b'V') {
+            j += 1;
+        } else {
+            return false;
+        }
+    }
+    true
+}
+
+// How many settings the maker is given; for what is not whole records, or more than 16, one more than any script wants.
+pub(crate) fn given_count(s: &[u8]) -> usize
+    ensures { λ r. ⌜ r ≡ givenCount (now (s .entry)) ⌝ }
+{
+    let length = s.len();
+    let count = length / 6;
+    if count < 17 {
+        if length % 6 == 0 {
+            if all_marked(s, count) {
+                return count;
+            }
+            return 17;
+        }
+        return 17;
+    }
+    17
+}
+
+// The values of the first records into the lent settings.
+pub(crate) fn decode(s: &[u8], count: usize, settings: &mut [i32])
+    requires { ⌜ count ≤ 17 ⌝ }
+    requires { ⌜ count ≤ length (now settings) ⌝ }
+    ensures { λ r. ⌜ now (settings .exit) ≡ over (numbered (settingAt (now (s .entry))) 0 count) (now (settings .entry)) ⌝ }
+{
+    let mut j = 0;
+    while j < count {
+        let v = value32(s, 6 * j + 2);
+        put32(settings, j, v);
+        j += 1;
+    }
+}
