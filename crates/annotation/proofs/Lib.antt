@@ -6,4 +6,5 @@ pub mod Contexts
 pub mod Steps
 pub mod Recursion
 pub mod Joining
+pub mod Faults
 pub mod Acceptance

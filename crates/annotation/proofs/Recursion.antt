@@ -3,9 +3,11 @@
 use Prim.Native.Nat.{ℕ, _+_, _-_, _≤_, _<_}
 use mathlib.Core.Path.{_≡_, refl, ap, _∙_, subst}
 use mathlib.Core.List.{List, [], _∷_}
+use mathlib.Core.Option.{none}
 use native.Mathlib.Omega.{arith}
 use lib.IntN.{ℤ}
 use lib.ListN.{length, getD}
+use borrow.Author.Tests.{eq-eqb}
 use Rattle.lambdamix.specs.declared.Use.{Use}
 use Rattle.lambdamix.specs.declared.Use.the-variants.{Child}
 use Rattle.lambdamix.specs.Script.{Script, Node, fields, rowOf, nodeAt, nodeCount, root}
@@ -15,6 +17,7 @@ use Rattle.lambdamix.specs.Typing.{Context}
 use Rattle.lambdamix.specs.Checker.{Checked, typed, both, rule, check, checkedRoot, annotationRefusal}
 use Rattle.script.specs.declared.Counts.{Counts}
 use Rattle.script.specs.declared.NodeNumber.{NodeNumber}
+use Rattle.script.specs.declared.TypeNumber.{TypeNumber}
 use Rattle.script.specs.Kinds.{useOf}
 use Rattle.script.specs.Tables.{Tables, rowNode}
 use Rattle.annotation.specs.declared.typing.Typed.{Typed}
@@ -49,6 +52,12 @@ module _ {n : Counts} {x : List ℤ → Tables} {stack : List ℕ} {d i f : ℕ}
   pub no-child : ((y : Checked Ty) → fieldCheck u y ≡ typed D) → Answers n x stack stack d i u f (Is (record { 0 = 1 }))
   unfolding Agree
   no-child e = record { kept = λ k h. refl; reply = λ w Γ ok b h m k. rw (e _) (late-stands _) }
+
+-- the same answer at a field of the same number
+pub at-field-of :
+    {n : Counts} {x : List ℤ → Tables} {before after : List ℕ} {d i f g : ℕ} {u : Use} {r : Typed} →
+    Answers n x before after d i u f r → f ≡ g → Answers n x before after d i u g r
+at-field-of a e = rw (← e) a
 
 -- a node's check from what stands at its fields
 module _ (n : Counts) (x : Tables) (ok : Passes n x) (i : ℕ) (l : i < nodeCount (scriptOf n x)) where
@@ -114,6 +123,11 @@ module _ {n : Counts} {p r is ks na nb nc : List ℕ} where
             let c′ = c .reply w _ ok y₃ (under 2 (omega arith)) (omega arith) l₃ in
             node-stands n x ok i (omega arith) Γ a′ b′ c′ (st .reply nc w _ ok y₄ (omega arith) (a′ .known) (b′ .known) (c′ .known));
       }
+
+-- a root that is D passes
+pub root-passes : {r : Typed} {k : TypeNumber} (i : NodeNumber) → r ≡ Is k → k .0 ≡ 1 → none ≡ rootAnswer i r
+unfolding rootAnswer
+root-passes i e f = rw (e, eq-eqb _ _ f)
 
 -- Theorem: the root's answer, under no binders, gives refusals 9, 10 and 11.
 pub at-root :

@@ -9,6 +9,7 @@ use script::Verdict;
 use script::column::at8;
 use script::column::at16;
 use script::kinds::use_of;
+use script::limits::MAX_NODES;
 ghost use Prim.Native.Nat.{_+_, _-_, _≤_};
 ghost use mathlib.Core.Path.{_≡_};
 ghost use mathlib.Core.Bool.{_&&_};
@@ -354,7 +355,7 @@ pub fn annotation_refusal(
         refusalOf r ≡ annotationRefusal (scriptOf n (tablesOf (now (parameters .entry)) (now (results .entry)) (now (inputs .entry)) (now (kinds .entry))
         (now (a .entry)) (now (b .entry)) (now (c .entry)) values))) ⌝ }
 {
-    let mut stack = [0u16; 4096];
+    let mut stack = [0u16; MAX_NODES];
     let root = last(n.nodes);
     verdict(
         root,

@@ -10,7 +10,8 @@ use lib.Seq.{getD-set-same, getD-set-other}
 use lib.Dec.{eqb}
 use borrow.Author.Tests.{eqb-true, eqb-false, eq-eqb, ne-eqb}
 use Rattle.lambdamix.specs.Structure.{oneIf, occurrences}
-use Rattle.script.specs.Walks.{keptIf, Counted}
+use Rattle.lambdamix.specs.declared.Use.{Use}
+use Rattle.script.specs.Walks.{Columns, useAt, isChild, keptIf, childrenAt, Counted}
 
 -- no node is counted
 pub counted-none : (xs : List ℕ) → Counted (λ j. 0) xs xs
@@ -55,7 +56,7 @@ occurrences-field true m ms j = omega arith
 occurrences-field false m ms j = omega arith
 
 -- the three fields of a node
-pub counted-fields :
+counted-fields :
     (a b c : Bool) (f g h : ℕ) {ws xs ys zs : List ℕ}
     → Counted (λ j. occurrences j (keptIf a f [])) ws xs
     → Counted (λ j. occurrences j (keptIf b g [])) xs ys
@@ -64,6 +65,19 @@ pub counted-fields :
 counted-fields a b c f g h p q r =
     counted-same (λ j. occurrences-field a f (keptIf b g (keptIf c h [])) j ∙ ap (_+_ _) (occurrences-field b g (keptIf c h []) j))
     (counted-both p (counted-both q r))
+
+-- the children of a node, whose fields and uses are as told
+pub counted-children :
+    (x : Columns) (i : ℕ) (u v w : Use) {f g h : ℕ} {ws xs ys zs : List ℕ}
+    → u ≡ useAt x i 0 → v ≡ useAt x i 1 → w ≡ useAt x i 2
+    → f ≡ getD (x .a) i 0 → g ≡ getD (x .b) i 0 → h ≡ getD (x .c) i 0
+    → Counted (λ j. occurrences j (keptIf (isChild u) f [])) ws xs
+    → Counted (λ j. occurrences j (keptIf (isChild v) g [])) xs ys
+    → Counted (λ j. occurrences j (keptIf (isChild w) h [])) ys zs
+    → Counted (λ j. occurrences j (childrenAt x i)) ws zs
+unfolding childrenAt
+counted-children x i u v w {f} {g} {h} a b c d e k p q r =
+    rw (← a, ← b, ← c, ← d, ← e, ← k) (counted-fields (isChild u) (isChild v) (isChild w) f g h p q r)
 
 -- capped counts that started at zero tell whether a node is used once
 pub counted-once :

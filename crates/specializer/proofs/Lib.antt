@@ -8,6 +8,7 @@ pub mod CodeTrees
 pub mod Emission
 pub mod Finishing
 pub mod Refusing
+pub mod Running
 pub mod Numbers
 pub mod Making
 pub mod EntryDemand

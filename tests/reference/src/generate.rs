@@ -7,27 +7,55 @@ mod ill_typed;
 mod shapes;
 mod well_typed;
 
+use crate::assemble::{late_function, lay_out};
 use crate::benchmake::encode_settings;
 use crate::random::Random;
-use crate::script::{encode, Field, Node, Script, S};
+use crate::script::{encode, Field, Node, Script, D, S};
 
 /// A way to make an input, and how often it is taken.
 type Recipe = (usize, fn(&mut Random) -> Vec<u8>);
 
 /// The input at one place of a seeded sequence.
 pub fn input(seed: u64, index: u64) -> Vec<u8> {
-    let mut random = Random::new(seed, index);
     let recipes = [well_typed::RECIPES, ill_typed::RECIPES, damaged::RECIPES].concat();
+    taken(&recipes, index, &mut Random::new(seed, index))
+}
+
+/// The same of whole files alone: two ill typed for each well typed one.
+pub fn whole(seed: u64, index: u64) -> Vec<u8> {
+    let mut random = Random::new(seed, index);
+    if index % 3 == 0 {
+        return taken(well_typed::RECIPES, index / 3, &mut random);
+    }
+    let recipes = [ill_typed::RECIPES, ill_typed::ORDERED].concat();
+    taken(&recipes, index - index / 3 - 1, &mut random)
+}
+
+/// The recipe whose turn it is; each run of turns takes every recipe as often as its weight.
+fn taken(recipes: &[Recipe], turn: u64, random: &mut Random) -> Vec<u8> {
     let total: usize = recipes.iter().map(|recipe| recipe.0).sum();
-    // Each run of `total` places takes every recipe as often as its weight.
-    let mut turn = index as usize % total;
+    let mut turn = turn as usize % total;
     for (weight, recipe) in recipes {
-        if turn < weight {
-            return recipe(&mut random);
+        if turn < *weight {
+            return recipe(random);
         }
         turn -= weight;
     }
     unreachable!("a turn is below the sum of the weights")
+}
+
+/// A script that is long to check: 4,096 nodes, height 256, 64 types. Under 242 binders each leaf is an input, which is no
+/// binder's name, or a function of the type that is listed last.
+pub fn long_to_check() -> Script {
+    let (binders, nodes) = (242, 4_096);
+    let mut types = vec![];
+    for last in 0..63 {
+        types.push((if last == 0 { D } else { last + 1 }, D));
+    }
+    types.push((S, D));
+    let term = (0..binders)
+        .fold(shapes::leaves(nodes - binders, 0), |below, k| late_function(1 + k as u16, below));
+    Script { types, inputs: vec![D], nodes: lay_out(&term) }
 }
 
 /// A script with settings for its early inputs.

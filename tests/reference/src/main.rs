@@ -6,6 +6,7 @@ mod benchmake;
 mod checker;
 mod generate;
 mod listing;
+mod makes;
 mod random;
 mod script;
 mod self_check;
@@ -31,7 +32,10 @@ const USAGE: &str = "commands:
   pack FILE SEED COUNT
   pack-scripts FILE SEED COUNT
   pack-damaged FILE SEED COUNT
-  packed read|check|benchmake FILE
+  pack-whole FILE SEED COUNT MOST
+  pack-long FILE COUNT
+  pack-makes FILE SEED COUNT
+  packed read|check|benchmake|make FILE
   differ PROGRAM SEED COUNT [FILE]
 ";
 
@@ -64,9 +68,9 @@ fn run(words: &[&str]) -> Result<bool, String> {
         ["bare", dir, fuel] => bare(dir, number(fuel)? as usize),
         ["read", dir] => tell(dir, |input| place(script::read(benchmake::split(input).0))),
         ["check", dir] => tell(dir, |input| place(benchmake::accept(input))),
-        ["pack", file, seed, count] => pack(file, number(count)?, |k| {
-            Ok(generate::input(number(seed)?, k))
-        }),
+        ["pack", file, seed, count] => {
+            pack(file, number(count)?, |k| Ok(generate::input(number(seed)?, k)))
+        }
         ["pack-scripts", file, seed, count] => pack(file, number(count)?, |k| {
             let input = generate::input(number(seed)?, k);
             // Every fourth keeps the settings behind the script, which makes the length wrong.
@@ -76,15 +80,28 @@ fn run(words: &[&str]) -> Result<bool, String> {
         ["pack-damaged", file, seed, count] => {
             let seed = number(seed)?;
             let scripts = (0..).map(|k| benchmake::split(&generate::input(seed, k)).0.to_vec());
-            let mut damaged = scripts.filter(|bytes| script::read(bytes).is_err());
-            let damaged: Vec<_> = damaged.by_ref().take(number(count)? as usize).collect();
-            pack(file, damaged.len() as u64, |k| Ok(damaged[k as usize].clone()))
+            pack_first(file, number(count)?, scripts.filter(|bytes| script::read(bytes).is_err()))
+        }
+        ["pack-whole", file, seed, count, most] => {
+            let (seed, most) = (number(seed)?, number(most)? as usize);
+            let scripts = (0..).map(|k| benchmake::split(&generate::whole(seed, k)).0.to_vec());
+            let small = scripts.filter(|bytes| bytes.len() <= most);
+            pack_first(file, number(count)?, small.filter(|bytes| script::read(bytes).is_ok()))
+        }
+        ["pack-long", file, count] => {
+            let bytes = script::encode(&generate::long_to_check());
+            pack(file, number(count)?, |_| Ok(bytes.clone()))
         }
         ["packed", "read", file] => tell_packed(file, |input| place(script::read(input)) + "\n"),
         ["packed", "check", file] => tell_packed(file, |input| {
             place(script::read(input).and_then(|script| checker::check(&script))) + "\n"
         }),
+        ["pack-makes", file, seed, count] => {
+            let calls = makes::calls(number(seed)?, number(count)? as usize);
+            pack(file, calls.len() as u64, |k| Ok(calls[k as usize].clone()))
+        }
         ["packed", "benchmake", file] => tell_packed(file, benchmake::benchmake),
+        ["packed", "make", file] => tell_packed(file, makes::told),
         ["differ", program, seed, count] => differ(program, number(seed)?, number(count)?, None),
         ["differ", program, seed, count, file] => {
             differ(program, number(seed)?, number(count)?, Some(Path::new(file)))
@@ -176,6 +193,16 @@ fn pack(
     }
     fs::write(file, bytes).map_err(|e| format!("{file}: {e}"))?;
     Ok(true)
+}
+
+/// The same for the first of some scripts.
+fn pack_first(
+    file: &str,
+    count: u64,
+    scripts: impl Iterator<Item = Vec<u8>>,
+) -> Result<bool, String> {
+    let first: Vec<_> = scripts.take(count as usize).collect();
+    pack(file, count, |k| Ok(first[k as usize].clone()))
 }
 
 /// Prints for each input of such a file its number and what is told of it.

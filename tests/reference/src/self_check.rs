@@ -56,7 +56,7 @@ pub fn script_a() -> Script {
     }
 }
 
-fn script_a_without_lift() -> Script {
+pub fn script_a_without_lift() -> Script {
     let mut script = script_a();
     script.nodes.remove(3);
     script.nodes[4] = node(LATE_OPERATION, [3, 2, LESS], 0);

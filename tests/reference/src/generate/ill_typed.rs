@@ -16,6 +16,9 @@ pub const RECIPES: &[Recipe] = &[
     (4, shadowed_names),
 ];
 
+/// Recipes of `whole` alone.
+pub const ORDERED: &[Recipe] = &[(10, both_faults)];
+
 /// At times the settings are wrong too: 9 to 11 come before 12.
 fn finish(mut script: Script, random: &mut Random) -> Vec<u8> {
     maybe_renumber(&mut script, random);
@@ -316,6 +319,32 @@ fn faulty_branches(random: &mut Random) -> Vec<u8> {
     let text = format!(
         "(script (types (D D) (S D) (t3 t3) (t2 t2) (S S) (t2 D) (t4 D)) (inputs S D) {body})"
     );
+    finish(assemble(&text).expect("a good text"), random)
+}
+
+/// A fault and a function whose type isn't listed, in two branches, either of them the lower.
+fn both_faults(random: &mut Random) -> Vec<u8> {
+    let fault = random.pick(&[
+        "(lift i1)",
+        "(_app i0 i1)",
+        "(app i1 i1)",
+        "(if i1 i1 i1)",
+        "(fix i1)",
+        "i0",
+    ]);
+    let unlisted = random.pick(&[
+        "(app (lam v2 D 1) i1)",
+        "(app (lam v2 S (lam v3 D v3)) 1)",
+        "(_fix (app (lam v2 D (lam v2 D i1)) i1))",
+    ]);
+    let (first, second) = if random.chance(50) { (fault, unlisted) } else { (unlisted, fault) };
+    let body = match random.below(4) {
+        0 => format!("(_app {first} {second})"),
+        1 => format!("(if i0 {first} {second})"),
+        2 => format!("(_if {first} i1 {second})"),
+        _ => format!("(_lam v2 (_+ {first} {second}))"),
+    };
+    let text = format!("(script (types (D D)) (inputs S D) {body})");
     finish(assemble(&text).expect("a good text"), random)
 }
 

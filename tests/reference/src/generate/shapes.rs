@@ -50,6 +50,19 @@ pub fn late_tree(random: &mut Random, size: usize, name: u16) -> Term {
     }
 }
 
+/// An even late tree of exactly `size` nodes over an input, in part as the result of a function of a number.
+pub fn leaves(size: usize, input: u16) -> Term {
+    match size {
+        0 | 1 => variable(input),
+        2 => late_fix(variable(input)),
+        4..=7 => apply(function(u16::MAX, S, leaves(size - 3, input)), constant(1)),
+        _ => {
+            let half = (size - 1) / 2;
+            late_operation(PLUS, leaves(half, input), leaves(size - 1 - half, input))
+        }
+    }
+}
+
 /// A script without types.
 pub fn untyped(inputs: &[u16], term: &Term) -> Script {
     Script { types: vec![], inputs: inputs.to_vec(), nodes: lay_out(term) }

@@ -1,13 +1,15 @@
 -- `annotation::check::check` meets its contract: by the verdict on the tables. Assumes nothing.
 use borrow.Author.Needs.{needs}
+use Rattle.lambdamix.specs.Structure.{orElse}
+use Rattle.script.specs.Replies.{refusalOf}
 use Rattle.annotation.specs.Checks.{checkRefusal}
-use Rattle.annotation.proofs.Joining.{refused-first, passed-first}
+use Rattle.annotation.proofs.Joining.{passed-first}
 use Rattle.annotation.proofs.check.check.Statement.{statement}
 use Rattle.annotation.proofs.check.check.Tie as tie
 
 returns : tie.Need-returns
-unfolding checkRefusal
-returns c = refused-first _ (c .before .before .before .tables-refusal .ensures) (c .before .f .given .1)
+unfolding checkRefusal refusalOf orElse
+returns c = rw (← c .before .before .before .tables-refusal .ensures, c .before .f .given .1)
 
 returns-2 : tie.Need-returns-2
 unfolding checkRefusal

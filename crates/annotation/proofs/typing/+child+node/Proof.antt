@@ -10,7 +10,7 @@ use types.Run.{miss}
 use Rattle.lambdamix.specs.declared.Use.the-variants.{Child}
 use Rattle.annotation.specs.Fields.{fieldCheck}
 use Rattle.annotation.proofs.Uses.{other-arm}
-use Rattle.annotation.proofs.Recursion.{at-child, no-smaller, no-child, at-node}
+use Rattle.annotation.proofs.Recursion.{at-child, no-smaller, no-child, at-field-of, at-node}
 use Rattle.annotation.proofs.typing.child.Reads as child
 use Rattle.annotation.proofs.typing.child.Kinds as child-kinds
 use Rattle.annotation.proofs.typing.+child+node.Lts-child as child-lts
@@ -80,7 +80,12 @@ node-same-length : (t : ℕ) → node-lts.Need-same-length (node-calls t) (node-
 node-same-length t c = omega (arith, c .before .before .before .before .before .before .before .before .before .before .before .before .before .before .before .before .enter .kept, c .before .before .before .before .before .before .before .before .before .before .before .before .child .kept, c .before .before .before .before .before .before .before .before .child2 .kept, c .before .before .before .before .child3 .kept)
 
 node-returns : (t : ℕ) → node-lts.Need-returns (node-calls t) (node-at t) node.Post
-node-returns t c = at-node (rw (c .before .before .before .before .before .before .before .before .before .before .before .before .before .before .before .before .before .before .before .before .before .before .before .use-of .ensures, c .before .before .before .before .before .before .before .before .before .before .before .before .before .before .before .before .before .before .before .before .before .before .before .before .at8 .ensures) at (c .before .before .before .before .before .before .before .before .before .before .before .before .before .before .before .before .enter .ensures)) (rw (c .before .before .before .before .before .before .before .before .before .before .before .before .before .before .before .before .before .before .before .before .before .before .before .use-of .ensures, c .before .before .before .before .before .before .before .before .before .before .before .before .before .before .before .before .before .before .before .before .before .before .before .before .at8 .ensures, c .before .before .before .before .before .before .before .before .before .before .before .before .before .before .before .before .before .before .before .before .at16 .ensures) at (c .before .before .before .before .before .before .before .before .before .before .before .before .child .ensures)) (rw (c .before .before .before .before .before .before .before .before .before .before .before .before .before .before .before .before .before .before .before .before .before .before .use-of2 .ensures, c .before .before .before .before .before .before .before .before .before .before .before .before .before .before .before .before .before .before .before .before .before .before .before .before .at8 .ensures, c .before .before .before .before .before .before .before .before .before .before .before .before .before .before .before .before .before .before .before .at162 .ensures) at (c .before .before .before .before .before .before .before .before .child2 .ensures)) (rw (c .before .before .before .before .before .before .before .before .before .before .before .before .before .before .before .before .before .before .before .before .before .use-of3 .ensures, c .before .before .before .before .before .before .before .before .before .before .before .before .before .before .before .before .before .before .before .before .before .before .before .before .at8 .ensures, c .before .before .before .before .before .before .before .before .before .before .before .before .before .before .before .before .before .before .at163 .ensures) at (c .before .before .before .before .child3 .ensures)) (omega (arith, c .before .before .before .before .before .before .before .before .before .before .before .before .before .before .before .before .enter .kept)) (omega (arith, c .before .before .before .before .before .before .before .before .before .before .before .before .child .kept)) (omega (arith, c .before .before .before .before .before .before .before .before .child2 .kept)) (c .step .ensures)
+node-returns t c =
+    at-node (rw (c .before .before .before .before .before .before .before .before .before .before .before .before .before .before .before .before .before .before .before .before .before .before .before .use-of .ensures, c .before .before .before .before .before .before .before .before .before .before .before .before .before .before .before .before .before .before .before .before .before .before .before .before .at8 .ensures) at (c .before .before .before .before .before .before .before .before .before .before .before .before .before .before .before .before .enter .ensures))
+    (at-field-of (rw (c .before .before .before .before .before .before .before .before .before .before .before .before .before .before .before .before .before .before .before .before .before .before .before .use-of .ensures, c .before .before .before .before .before .before .before .before .before .before .before .before .before .before .before .before .before .before .before .before .before .before .before .before .at8 .ensures) at (c .before .before .before .before .before .before .before .before .before .before .before .before .child .ensures)) (omega (arith, c .before .before .before .before .before .before .before .before .before .before .before .before .before .before .before .before .before .before .before .before .at16 .ensures)))
+    (at-field-of (rw (c .before .before .before .before .before .before .before .before .before .before .before .before .before .before .before .before .before .before .before .before .before .before .use-of2 .ensures, c .before .before .before .before .before .before .before .before .before .before .before .before .before .before .before .before .before .before .before .before .before .before .before .before .at8 .ensures) at (c .before .before .before .before .before .before .before .before .child2 .ensures)) (omega (arith, c .before .before .before .before .before .before .before .before .before .before .before .before .before .before .before .before .before .before .before .at162 .ensures)))
+    (at-field-of (rw (c .before .before .before .before .before .before .before .before .before .before .before .before .before .before .before .before .before .before .before .before .before .use-of3 .ensures, c .before .before .before .before .before .before .before .before .before .before .before .before .before .before .before .before .before .before .before .before .before .before .before .before .at8 .ensures) at (c .before .before .before .before .child3 .ensures)) (omega (arith, c .before .before .before .before .before .before .before .before .before .before .before .before .before .before .before .before .before .before .at163 .ensures)))
+    (omega (arith, c .before .before .before .before .before .before .before .before .before .before .before .before .before .before .before .before .enter .kept)) (omega (arith, c .before .before .before .before .before .before .before .before .before .before .before .before .child .kept)) (omega (arith, c .before .before .before .before .before .before .before .before .child2 .kept)) (c .step .ensures)
 
 pub +child+node-spec : {M : Type 1} → statement M
 +child+node-spec =

@@ -1,4 +1,5 @@
-use mathlib.Core.Path.{sym, ap, _∙_}
+use mathlib.Core.Path.{ap}
+use native.Mathlib.Omega.{arith}
 use Rattle.lambdamix.specs.Limits.{maxFuel}
 use Rattle.lambdamix.specs.Specializing.{staticInputs}
 use Rattle.script.specs.Replies.{refusalOf}
@@ -21,17 +22,17 @@ cast-wanted c = search needs
 -- src/before.rt:33:9
 returns : tie.Need-returns
 unfolding refusalOf
-returns c = λ s zs i l. wrong-settings s zs (c .before .before .before .args .fuel) (λ e. c .if1 .taken (sym l ∙ e ∙ ap staticInputs i ∙ sym (c .before .early .ensures)))
+returns c = λ s zs i l. wrong-settings s zs (c .before .before .before .args .fuel) (λ e. let z : ⊥ = omega (arith, c .if1 .taken, l, e, ap staticInputs i, c .before .early .ensures) in z)
 
 -- src/before.rt:39:9
 returns-2 : tie.Need-returns-2
 unfolding refusalOf maxFuel
-returns-2 c = λ s zs i l. wrong-fuel s zs (c .before .before .before .before .args .fuel) (l ∙ c .before .if1 .left ∙ c .before .before .early .ensures ∙ ap staticInputs (sym i)) (c .if2 .taken)
+returns-2 c = λ s zs i l. wrong-fuel s zs (c .before .before .before .before .args .fuel) (omega (arith, c .before .if1 .left, l, ap staticInputs i, c .before .before .early .ensures)) (omega (arith, c .if2 .taken))
 
 -- src/before.rt:28:1
 returns-3 : tie.Need-returns-3
 unfolding refusalOf maxFuel
-returns-3 c = λ s zs i l. right-call s zs (c .before .before .before .before .args .fuel) (l ∙ c .before .if1 .left ∙ c .before .before .early .ensures ∙ ap staticInputs (sym i)) (c .if2 .left)
+returns-3 c = λ s zs i l. right-call s zs (c .before .before .before .before .args .fuel) (omega (arith, c .before .if1 .left, l, ap staticInputs i, c .before .before .early .ensures)) (omega (arith, c .if2 .left))
 
 pub call-refusal-spec : {M : Type 1} → statement M
 call-refusal-spec = tie.close (tie.spec early-requires cast-wanted returns returns-2 returns-3)

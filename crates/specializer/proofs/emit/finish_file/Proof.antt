@@ -1,5 +1,6 @@
 -- `specializer::emit::finish_file` meets its contract: each branch knows whether the output is long enough. Assumes nothing.
 use borrow.Author.Needs.{needs}
+use native.Mathlib.Omega.{arith}
 use Rattle.file.specs.Written.{inputRow}
 use Rattle.specializer.specs.Cells.{codeAt}
 use Rattle.specializer.proofs.Finishing.{fits-small, finish-written, finish-short}
@@ -7,13 +8,13 @@ use Rattle.specializer.proofs.emit.finish_file.Statement.{statement}
 use Rattle.specializer.proofs.emit.finish_file.Tie as tie
 
 returns : tie.Need-returns
-returns c = λ s k i. finish-short s (inputRow (c .before .before .before .before .args .inputs .now)) (c .before .before .before .before .args .count) i (codeAt (c .before .before .before .before .args .codes .now) (c .before .before .before .before .args .p)) (c .before .before .before .before .pre .0) k (c .before .before .before .before .pre .1) (c .if1 .taken)
+returns c = λ s k i. finish-short s (inputRow (c .before .before .before .before .args .inputs .now)) (c .before .before .before .before .args .count) i (codeAt (c .before .before .before .before .args .codes .now) (c .before .before .before .before .args .p)) (c .before .before .before .before .pre .0) k (c .before .before .before .before .pre .1) (omega (arith, c .if1 .taken))
 
 write-code-requires : tie.Need-write-code-requires
-write-code-requires c κs = (c .before .before .before .before .before .pre .0, fits-small (codeAt (c .before .before .before .before .before .args .codes .now) (c .before .before .before .before .before .args .p)) (c .before .before .before .before .before .pre .0) (c .before .before .before .before .before .pre .1))
+write-code-requires c κs = (omega (arith, c .before .before .before .before .before .pre .0), fits-small (codeAt (c .before .before .before .before .before .args .codes .now) (c .before .before .before .before .before .args .p)) (c .before .before .before .before .before .pre .0) (c .before .before .before .before .before .pre .1))
 
 returns-2 : tie.Need-returns-2
-returns-2 c = λ s k i. finish-written s (inputRow (c .before .before .before .before .before .before .before .before .args .inputs .now)) (c .before .before .before .before .before .before .before .before .args .count) i (codeAt (c .before .before .before .before .before .before .before .before .args .codes .now) (c .before .before .before .before .before .before .before .before .args .p)) (c .before .before .before .before .before .before .before .before .pre .0) k (c .before .before .before .before .before .before .before .before .pre .1) (c .before .before .before .before .if1 .left) (c .before .before .write-code .ensures s i)
+returns-2 c = λ s k i. finish-written s (inputRow (c .before .before .before .before .before .before .before .before .args .inputs .now)) (c .before .before .before .before .before .before .before .before .args .count) i (codeAt (c .before .before .before .before .before .before .before .before .args .codes .now) (c .before .before .before .before .before .before .before .before .args .p)) (c .before .before .before .before .before .before .before .before .pre .0) k (c .before .before .before .before .before .before .before .before .pre .1) (omega (arith, c .before .before .before .before .if1 .left)) (c .before .before .write-code .ensures s i)
 
 pub finish-file-spec : {M : Type 1} → statement M
 finish-file-spec =

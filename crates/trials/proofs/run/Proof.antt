@@ -1,18 +1,18 @@
--- `trials::main` meets its contract: the loop over the scripts ends. Assumes nothing.
+-- `trials::run` meets its contract: the loop over the records ends. Assumes nothing.
 use borrow.Author.Needs.{needs}
 use Prim.Native.Nat.{_≤_, _-_}
 use native.Mathlib.Omega.{arith}
-use Rattle.trials.proofs.main.Statement.{statement}
-use Rattle.trials.proofs.main.Tie as tie
+use Rattle.trials.proofs.run.Statement.{statement}
+use Rattle.trials.proofs.run.Tie as tie
 
 abbrev Inv-loop : tie.InvT-loop
-Inv-loop file k₀ k = k ≤ 1000000
+Inv-loop kind path file k₀ k = k ≤ 1000000
 
 abbrev μ-loop : tie.MeasureT-loop
-μ-loop file k₀ k = 1000000 - k
+μ-loop kind path file k₀ k = 1000000 - k
 
-pub main-spec : {M : Type 1} → statement M
-main-spec =
+pub run-spec : {M : Type 1} → statement M
+run-spec =
     tie.close
     (tie.spec
     Inv-loop

@@ -1,0 +1,11 @@
+-- `scriptmaker::make::scriptmaker_bare_run` meets its contract: what the entry promises carries over. Assumes nothing.
+use borrow.Author.Needs.{needs}
+use Rattle.scriptmaker.proofs.Carrying.{makes}
+use Rattle.scriptmaker.proofs.make.scriptmaker_bare_run.Statement.{statement}
+use Rattle.scriptmaker.proofs.make.scriptmaker_bare_run.Tie as tie
+
+returns : tie.Need-returns
+returns c = makes _ _ _ _ _ _ _ _ _ _ _ _ (c .before .before .before .before .before .before .before .before .before .before .before .before .before .before .counted .ensures) (c .before .before .before .before .before .before .before .before .before .bare-run .ensures) (c .reply .ensures)
+
+pub scriptmaker-bare-run-spec : {M : Type 1} → statement M
+scriptmaker-bare-run-spec = tie.close (tie.spec (λ c κs. search needs) (λ c κs. search needs) (λ c κs. search needs) (λ c. search needs) (λ c. search needs) (λ c. search needs) (λ c. search needs) returns)

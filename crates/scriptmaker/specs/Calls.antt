@@ -1,0 +1,93 @@
+-- What the functions for callers in C and Rust promise, for every call: each cites the definition that the entry it calls cites, and
+-- the paper's number and place (0 and 0 of a success) stand in a struct. Assumes nothing.
+use Prim.Native.Nat.{ℕ}
+use mathlib.Core.Path.{_≡_}
+use mathlib.Core.Bool.{Bool}
+use mathlib.Core.List.{List}
+use mathlib.Core.Option.{Option, none, some}
+use lib.IntN.{ℤ}
+use Rattle.lambdamix.specs.Checker.{Refusal}
+use Rattle.script.specs.declared.Counts as Script
+use Rattle.script.specs.declared.Reading.{Reading}
+use Rattle.script.specs.declared.Reading.the-variants as Reading
+use Rattle.script.specs.declared.Writing.{Writing}
+use Rattle.script.specs.declared.Writing.the-variants as Writing
+use Rattle.script.specs.Tables.{Tables, tablesScript, readRefusal, readTables, writeRefusal, writtenOutput}
+use Rattle.script.specs.Replies.{reading, writing}
+use Rattle.annotation.specs.Checks.{checkRefusal}
+use Rattle.specializer.specs.Making as Making
+use Rattle.specializer.specs.Making.{Stores, made, unmade, making, refusalBefore, storesAfter}
+use Rattle.printer.specs.declared.Listing.{Listing}
+use Rattle.printer.specs.declared.Listing.the-variants as Listing
+use Rattle.printer.specs.Answers.{listed, listedOutput, tablesText, listRefusal}
+use Rattle.scriptmaker.specs.declared.Counts.{Counts}
+use Rattle.scriptmaker.specs.declared.ReadReply.{ReadReply}
+use Rattle.scriptmaker.specs.declared.WriteReply.{WriteReply}
+use Rattle.scriptmaker.specs.declared.CheckReply.{CheckReply}
+use Rattle.scriptmaker.specs.declared.MakeReply.{MakeReply}
+
+abbrev pub countsOf : Counts → Script.Counts
+countsOf n = record { types = n .types; inputs = n .inputs; nodes = n .nodes }
+
+-- the reader's answer; a refusal has counts of 0
+unfoldable pub readReply : Reading → ReadReply
+readReply (Reading.Read n) =
+    record { number = 0; place = 0; counts = record { types = n .types; inputs = n .inputs; nodes = n .nodes } }
+readReply (Reading.Refused f) =
+    record { number = f .number; place = f .place; counts = record { types = 0; inputs = 0; nodes = 0 } }
+
+-- the writer's answer; a refusal has length 0
+unfoldable pub writeReply : Writing → WriteReply
+writeReply (Writing.Written k) = record { number = 0; place = 0; length = k }
+writeReply (Writing.Refused f) = record { number = f .number; place = f .place; length = 0 }
+
+-- the listing's answer; a refusal has length 0
+unfoldable pub listReply : Listing → WriteReply
+listReply (Listing.Listed k) = record { number = 0; place = 0; length = k }
+listReply (Listing.Refused f) = record { number = f .number; place = f .place; length = 0 }
+
+-- the checker's answer
+unfoldable pub checkReply : Option Refusal → CheckReply
+checkReply none = record { number = 0; place = 0 }
+checkReply (some f) = record { number = f .number; place = f .place }
+
+-- the maker's answer; without code there are 0 nodes
+unfoldable pub makeReply : Making.Reply → MakeReply
+makeReply (made k n) = record { number = 0; place = 0; steps = k; nodes = n }
+makeReply (unmade f k) = record { number = f .number; place = f .place; steps = k; nodes = 0 }
+
+-- reading: the reply, and the tables after it
+pub record Reads (bs : List ℕ) (before after : Tables) (r : ReadReply) : Type 0 where
+  pub reply : r ≡ readReply (reading (readRefusal bs before) bs)
+  pub tables : after ≡ readTables (readRefusal bs before) bs before
+
+-- writing: the reply, and the output after it
+pub record Writes (n : Counts) (x : Tables) (before after : List ℕ) (r : WriteReply) : Type 0 where
+  pub reply :
+      r ≡ writeReply (writing (writeRefusal (n .types) (n .inputs) (n .nodes) x before) (tablesScript (n .types) (n .inputs) (n .nodes) x))
+  pub output :
+      after ≡ writtenOutput (writeRefusal (n .types) (n .inputs) (n .nodes) x before) (tablesScript (n .types) (n .inputs) (n .nodes) x) before
+
+-- listing: the reply, and the output after it
+pub record Lists (n : Counts) (x : Tables) (before after : List ℕ) (r : WriteReply) : Type 0 where
+  pub reply : r ≡ listReply (listed (listRefusal (countsOf n) x before) (tablesText (countsOf n) x))
+  pub output : after ≡ listedOutput (listRefusal (countsOf n) x before) (tablesText (countsOf n) x) before
+
+-- checking: the reply
+pub record Checks (n : Counts) (x : Tables) (r : CheckReply) : Type 0 where
+  pub reply : r ≡ checkReply (checkRefusal (n .types) (n .inputs) (n .nodes) x)
+
+-- making, or the bare run: the reply, the output after it, and the stores after it
+pub record Makes
+    (bare : Bool)
+    (n : Counts)
+    (x : Tables)
+    (zs : List ℤ)
+    (fuel : ℕ)
+    (before after : Stores)
+    (out left : List ℕ)
+    (r : MakeReply)
+    : Type 0 where
+  pub reply : r ≡ makeReply (making bare (n .types) (n .inputs) (n .nodes) x zs fuel before out .reply)
+  pub output : left ≡ making bare (n .types) (n .inputs) (n .nodes) x zs fuel before out .output
+  pub stored : after ≡ storesAfter (refusalBefore bare (n .types) (n .inputs) (n .nodes) x zs fuel before) before

@@ -1,0 +1,53 @@
+// The checker.
+use crate::CheckReply;
+use crate::Counts;
+use crate::counted;
+use annotation::check::check;
+use script::Verdict;
+ghost use mathlib.Core.Path.{_≡_};
+ghost use Rattle.script.specs.Replies.{refusalOf};
+ghost use Rattle.script.specs.Columns.{tablesOf};
+ghost use Rattle.scriptmaker.specs.Calls.{checkReply, Checks};
+
+fn reply(v: Verdict) -> CheckReply
+    ensures { λ q. ⌜ q ≡ checkReply (refusalOf v) ⌝ }
+{
+    match v {
+        Verdict::Passed => CheckReply {
+            number: 0,
+            place: 0,
+        },
+        Verdict::Refused(f) => CheckReply {
+            number: f.number,
+            place: f.place,
+        },
+    }
+}
+
+// Refusals 1 to 8 as the file of the tables, then 9 to 11.
+#[no_mangle]
+pub extern "C" fn scriptmaker_check(
+    n: Counts,
+    parameters: &[u16],
+    results: &[u16],
+    inputs: &[u16],
+    kinds: &[u8],
+    a: &[u16],
+    b: &[u16],
+    c: &[u16],
+    values: &[i32],
+) -> CheckReply
+    ensures { λ r. ⌜ Checks n (tablesOf (now (parameters .entry)) (now (results .entry)) (now (inputs .entry)) (now (kinds .entry)) (now (a .entry)) (now (b .entry)) (now (c .entry)) (now (values .entry))) r ⌝ }
+{
+    reply(check(
+        counted(n),
+        parameters,
+        results,
+        inputs,
+        kinds,
+        a,
+        b,
+        c,
+        values,
+    ))
+}

@@ -1,0 +1,56 @@
+// The listing.
+use crate::Counts;
+use crate::WriteReply;
+use crate::counted;
+use printer::Listing;
+use printer::list::list;
+ghost use mathlib.Core.Path.{_≡_};
+ghost use Rattle.script.specs.Columns.{tablesOf};
+ghost use Rattle.scriptmaker.specs.Calls.{listReply, Lists};
+
+fn reply(r: Listing) -> WriteReply
+    ensures { λ q. ⌜ q ≡ listReply r ⌝ }
+{
+    match r {
+        Listing::Listed(k) => WriteReply {
+            number: 0,
+            place: 0,
+            length: k,
+        },
+        Listing::Refused(f) => WriteReply {
+            number: f.number,
+            place: f.place,
+            length: 0,
+        },
+    }
+}
+
+// Refusals 1 to 8 as the file of the tables, then 21; what is not refused is listed.
+#[no_mangle]
+pub extern "C" fn scriptmaker_list(
+    n: Counts,
+    parameters: &[u16],
+    results: &[u16],
+    inputs: &[u16],
+    kinds: &[u8],
+    a: &[u16],
+    b: &[u16],
+    c: &[u16],
+    values: &[i32],
+    out: &mut [u8],
+) -> WriteReply
+    ensures { λ r. ⌜ Lists n (tablesOf (now (parameters .entry)) (now (results .entry)) (now (inputs .entry)) (now (kinds .entry)) (now (a .entry)) (now (b .entry)) (now (c .entry)) (now (values .entry))) (now (out .entry)) (now (out .exit)) r ⌝ }
+{
+    reply(list(
+        counted(n),
+        parameters,
+        results,
+        inputs,
+        kinds,
+        a,
+        b,
+        c,
+        values,
+        out,
+    ))
+}

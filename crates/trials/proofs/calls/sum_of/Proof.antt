@@ -1,0 +1,26 @@
+-- `trials::calls::sum_of` meets its contract: the loop over the bytes ends. Assumes nothing.
+use borrow.Author.Needs.{needs}
+use Prim.Native.Nat.{_≤_, _-_}
+use native.Mathlib.Omega.{arith}
+use Rattle.trials.proofs.calls.sum_of.Statement.{statement}
+use Rattle.trials.proofs.calls.sum_of.Tie as tie
+
+abbrev Inv-loop : tie.InvT-loop
+Inv-loop file n sum₀ i₀ sum i = i ≤ n
+
+abbrev μ-loop : tie.MeasureT-loop
+μ-loop file n sum₀ i₀ sum i = n - i
+
+pub sum-of-spec : {M : Type 1} → statement M
+sum-of-spec =
+    tie.close
+    (tie.spec
+    Inv-loop
+    μ-loop
+    (λ c. omega arith)
+    (λ c κs. search needs)
+    (λ c κs. search needs)
+    (λ c. search needs)
+    (λ c. omega arith)
+    (λ c. omega arith)
+    (λ c. search needs))

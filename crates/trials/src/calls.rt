@@ -1,0 +1,238 @@
+// A call of the maker: number, place and steps of its reply; of made code the count of its nodes and a sum over the bytes of its file.
+// The record tells whether the run is bare, the fuel, how many places of the stores and of the output are lent, the settings, and the
+// script file.
+use crate::print;
+use file::bytes;
+use script::Counts;
+use script::Reading;
+use script::column;
+use specializer::Reply;
+ghost use Prim.Native.Nat.{_≤_};
+
+fn word32(record: &[u8], at: u16) -> u32 {
+    let low = bytes::word16(record, at as usize) as u32;
+    let high = bytes::word16(record, (at as usize) + 2) as u32;
+    low + 65536 * high
+}
+
+// A length that is lent of a place for `most`.
+fn lent(record: &[u8], at: u16, most: usize) -> usize
+    ensures { λ r. ⌜ r ≤ most ⌝ }
+{
+    let n = word32(record, at) as usize;
+    if most < n {
+        return most;
+    }
+    n
+}
+
+// One more byte of a file in its sum.
+fn summed(sum: u32, byte: u8) -> u32 {
+    (31 * (sum % 65521) + (byte as u32) + 1) % 65521
+}
+
+fn sum_of(file: &[u8], n: usize) -> u32 {
+    let mut sum: u32 = 0;
+    for i in 0..n {
+        sum = summed(sum, column::at8(file, i));
+    }
+    sum
+}
+
+fn print_reply(k: usize, number: u8, place: usize, steps: u16, nodes: u16, sum: u32) {
+    print::first(k);
+    print::next(number as usize);
+    print::next(place);
+    print::next(steps as usize);
+    print::next(nodes as usize);
+    print::next(sum as usize);
+    print::end();
+}
+
+// The file of made code: a head, the inputs, the nodes.
+fn file_length(inputs: u16, nodes: u16) -> usize {
+    8 + 4 * (inputs as usize) + 13 * (nodes as usize)
+}
+
+fn print_answer(k: usize, n: Counts, r: Reply, out: &[u8]) {
+    match r {
+        Reply::Made(steps, nodes) => {
+            let sum = sum_of(out, file_length(n.inputs, nodes));
+            print_reply(k, 0, 0, steps, nodes, sum);
+        }
+        Reply::Unmade(f, steps) => print_reply(k, f.number, f.place, steps, 0, 0),
+    }
+}
+
+fn read_settings(record: &[u8], count: u16, settings: &mut [i32]) {
+    for j in 0..count {
+        column::put32(
+            settings,
+            j as usize,
+            bytes::value32(record, 18 + 4 * (j as usize)),
+        );
+    }
+}
+
+fn make(
+    bare: bool,
+    n: Counts,
+    parameters: &[u16],
+    results: &[u16],
+    inputs: &[u16],
+    kinds: &[u8],
+    a: &[u16],
+    b: &[u16],
+    c: &[u16],
+    values: &[i32],
+    settings: &[i32],
+    fuel: u32,
+    cells: &mut [u32],
+    words: &mut [u64],
+    codes: &mut [u64],
+    out: &mut [u8],
+) -> Reply {
+    if bare {
+        return specializer::make::bare_run(
+            n,
+            parameters,
+            results,
+            inputs,
+            kinds,
+            a,
+            b,
+            c,
+            values,
+            settings,
+            fuel,
+            cells,
+            words,
+            codes,
+            out,
+        );
+    }
+    specializer::make::make(
+        n,
+        parameters,
+        results,
+        inputs,
+        kinds,
+        a,
+        b,
+        c,
+        values,
+        settings,
+        fuel,
+        cells,
+        words,
+        codes,
+        out,
+    )
+}
+
+// The stores and the output are lent as long as the record says.
+fn make_lent(
+    record: &[u8],
+    n: Counts,
+    parameters: &[u16],
+    results: &[u16],
+    inputs: &[u16],
+    kinds: &[u8],
+    a: &[u16],
+    b: &[u16],
+    c: &[u16],
+    values: &[i32],
+    settings: &[i32],
+    out: &mut [u8],
+) -> Reply {
+    let mut cells = [0u32; 16016];
+    let mut words = [0u64; 16016];
+    let mut codes = [0u64; 32016];
+    let bare = column::at8(record, 0) == 1;
+    let store = lent(record, 5, 16016);
+    let code = lent(record, 9, 32016);
+    let first = 0;
+    make(
+        bare,
+        n,
+        parameters,
+        results,
+        inputs,
+        kinds,
+        a,
+        b,
+        c,
+        values,
+        settings,
+        word32(record, 1),
+        &mut cells[first..store],
+        &mut words[first..store],
+        &mut codes[first..code],
+        out,
+    )
+}
+
+// The script file of a record is read, and made.
+fn try_file(k: usize, record: &[u8], file: &[u8], settings: &[i32], out: &mut [u8]) {
+    let mut parameters = [0u16; 64];
+    let mut results = [0u16; 64];
+    let mut inputs = [0u16; 16];
+    let mut kinds = [0u8; 4096];
+    let mut a = [0u16; 4096];
+    let mut b = [0u16; 4096];
+    let mut c = [0u16; 4096];
+    let mut values = [0i32; 4096];
+    let answer = file::reader::read(
+        file,
+        &mut parameters,
+        &mut results,
+        &mut inputs,
+        &mut kinds,
+        &mut a,
+        &mut b,
+        &mut c,
+        &mut values,
+    );
+    match answer {
+        Reading::Read(n) => {
+            let r = make_lent(
+                record,
+                n,
+                &parameters,
+                &results,
+                &inputs,
+                &kinds,
+                &a,
+                &b,
+                &c,
+                &values,
+                settings,
+                out,
+            );
+            print_answer(k, n, r, out);
+        }
+        Reading::Refused(f) => print_reply(k, f.number, f.place, 0, 0, 0),
+    }
+}
+
+fn try_split(k: usize, record: &[u8], count: u8, settings: &[i32], out: &mut [u8]) {
+    let given = count as usize;
+    let at = 18 + 4 * given;
+    let end = record.len();
+    if at <= end {
+        if given <= settings.len() {
+            let first = 0;
+            try_file(k, record, &record[at..end], &settings[first..given], out);
+        }
+    }
+}
+
+pub fn try_call(k: usize, record: &[u8]) {
+    let mut settings = [0i32; 255];
+    let mut space = [0u8; 65536];
+    let count = column::at8(record, 17);
+    read_settings(record, count as u16, &mut settings);
+    let first = 0;
+    let room = lent(record, 13, 65536);
+    try_split(k, record, count, &settings, &mut space[first..room]);
+}

@@ -1,0 +1,119 @@
+/* The script maker for callers in C: x86-64 Linux, link libscriptmaker.a (rt staticlib scriptmaker).
+ *
+ * Every call is answered: a reply has the paper's number and place, and number 0 and place 0 after a success. What is promised of
+ * each call is proved; crates/scriptmaker/specs/Calls.antt says it. No function keeps anything between calls, takes memory, or
+ * touches more than what it is lent, so calls on different memory may run side by side.
+ *
+ * What the caller owes: each pointer is aligned, not null (even where the length is 0) and good for its length, and what is lent to
+ * be written overlaps nothing else that the call is lent. Of the stack a call takes less than SCRIPTMAKER_STACK bytes. */
+#ifndef SCRIPTMAKER_H
+#define SCRIPTMAKER_H
+
+#include <stddef.h>
+#include <stdint.h>
+
+#ifdef __cplusplus
+extern "C" {
+#endif
+
+enum {
+    SCRIPTMAKER_TYPES = 64,
+    SCRIPTMAKER_INPUTS = 16,
+    SCRIPTMAKER_NODES = 4096,
+    SCRIPTMAKER_FUEL = 16000,
+    SCRIPTMAKER_HEAP = SCRIPTMAKER_FUEL + 16,     /* places of cells and words for the greatest fuel */
+    SCRIPTMAKER_CODES = 2 * SCRIPTMAKER_FUEL + 16, /* places of codes for the greatest fuel */
+    SCRIPTMAKER_FILE = 8 + 6 * 64 + 4 * 16 + 13 * 4096, /* bytes of the longest script file */
+    SCRIPTMAKER_STACK = 4 * 1024 * 1024
+};
+
+/* How many types, inputs and nodes a script has. */
+struct scriptmaker_counts {
+    uint16_t types, inputs, nodes;
+};
+
+struct scriptmaker_check_reply {
+    uint8_t number;
+    size_t place;
+};
+
+struct scriptmaker_read_reply {
+    uint8_t number;
+    size_t place;
+    struct scriptmaker_counts counts; /* zeros after a refusal */
+};
+
+struct scriptmaker_write_reply {
+    uint8_t number;
+    size_t place;
+    size_t length; /* bytes written; 0 after a refusal */
+};
+
+struct scriptmaker_make_reply {
+    uint8_t number;
+    size_t place;
+    uint16_t steps;
+    uint16_t nodes; /* of the written code; 0 without code */
+};
+
+/* The columns of a script, each with its length: what the functions take for its tables. */
+#define SCRIPTMAKER_COLUMNS(QUALIFIER)                                                                       \
+    QUALIFIER uint16_t *parameters, size_t parameters_length, QUALIFIER uint16_t *results,                   \
+        size_t results_length, QUALIFIER uint16_t *inputs, size_t inputs_length, QUALIFIER uint8_t *kinds,   \
+        size_t kinds_length, QUALIFIER uint16_t *a, size_t a_length, QUALIFIER uint16_t *b, size_t b_length, \
+        QUALIFIER uint16_t *c, size_t c_length, QUALIFIER int32_t *values, size_t values_length
+
+/* Refusals 1 to 8, then 21; what is not refused fills the lent tables, a refusal leaves them as they were. */
+struct scriptmaker_read_reply scriptmaker_read(const uint8_t *file, size_t file_length, SCRIPTMAKER_COLUMNS());
+
+/* Tables shorter than the counts: 1; the refusals of the tables' file; 21 for a short output, which then stays as it was. */
+struct scriptmaker_write_reply scriptmaker_write(struct scriptmaker_counts counts, SCRIPTMAKER_COLUMNS(const),
+                                                 uint8_t *out, size_t out_length);
+
+/* Refusals 1 to 8 as the file of the tables, then 9 to 11. */
+struct scriptmaker_check_reply scriptmaker_check(struct scriptmaker_counts counts, SCRIPTMAKER_COLUMNS(const));
+
+/* Refusals 1 to 13 and 20, the run, 26, 21; finished code is written to the output as a script file. The stores are untouched
+ * before a run and hold zeros after it. */
+struct scriptmaker_make_reply scriptmaker_make(struct scriptmaker_counts counts, SCRIPTMAKER_COLUMNS(const),
+                                               const int32_t *settings, size_t settings_length, uint32_t fuel,
+                                               uint32_t *cells, size_t cells_length, uint64_t *words,
+                                               size_t words_length, uint64_t *codes, size_t codes_length, uint8_t *out,
+                                               size_t out_length);
+
+/* The same without refusals 9 to 11: bad marks are met as stop 27. */
+struct scriptmaker_make_reply scriptmaker_bare_run(struct scriptmaker_counts counts, SCRIPTMAKER_COLUMNS(const),
+                                                   const int32_t *settings, size_t settings_length, uint32_t fuel,
+                                                   uint32_t *cells, size_t cells_length, uint64_t *words,
+                                                   size_t words_length, uint64_t *codes, size_t codes_length,
+                                                   uint8_t *out, size_t out_length);
+
+#ifdef __cplusplus
+}
+#endif
+
+/* Tables as long as any script needs, and stores as long as any fuel needs. They are large: hold them outside the stack. */
+struct scriptmaker_script {
+    struct scriptmaker_counts counts;
+    uint16_t parameters[SCRIPTMAKER_TYPES], results[SCRIPTMAKER_TYPES], inputs[SCRIPTMAKER_INPUTS];
+    uint8_t kinds[SCRIPTMAKER_NODES];
+    uint16_t a[SCRIPTMAKER_NODES], b[SCRIPTMAKER_NODES], c[SCRIPTMAKER_NODES];
+    int32_t values[SCRIPTMAKER_NODES];
+};
+
+struct scriptmaker_stores {
+    uint32_t cells[SCRIPTMAKER_HEAP];
+    uint64_t words[SCRIPTMAKER_HEAP], codes[SCRIPTMAKER_CODES];
+};
+
+/* The columns of such a script as arguments. */
+#define SCRIPTMAKER_OF(s)                                                                                          \
+    (s)->parameters, SCRIPTMAKER_TYPES, (s)->results, SCRIPTMAKER_TYPES, (s)->inputs, SCRIPTMAKER_INPUTS,          \
+        (s)->kinds, SCRIPTMAKER_NODES, (s)->a, SCRIPTMAKER_NODES, (s)->b, SCRIPTMAKER_NODES, (s)->c,               \
+        SCRIPTMAKER_NODES, (s)->values, SCRIPTMAKER_NODES
+
+/* The stores as arguments. */
+#define SCRIPTMAKER_IN(m) \
+    (m)->cells, SCRIPTMAKER_HEAP, (m)->words, SCRIPTMAKER_HEAP, (m)->codes, SCRIPTMAKER_CODES
+
+#endif

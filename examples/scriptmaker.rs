@@ -1,0 +1,421 @@
+//! The script maker for callers in Rust: safe functions over the proved library `libscriptmaker.a` (`rt staticlib scriptmaker`).
+//! What is promised of each call is proved; `crates/scriptmaker/specs/Calls.antt` says it.
+
+pub const MAX_TYPES: usize = 64;
+pub const MAX_INPUTS: usize = 16;
+pub const MAX_NODES: usize = 4096;
+pub const MAX_FUEL: u32 = 16000;
+/// The longest script file.
+pub const MAX_FILE: usize = 8 + 6 * MAX_TYPES + 4 * MAX_INPUTS + 13 * MAX_NODES;
+
+/// How many types, inputs and nodes a script has.
+#[repr(C)]
+#[derive(Clone, Copy, Debug, Default, PartialEq, Eq)]
+pub struct Counts {
+    pub types: u16,
+    pub inputs: u16,
+    pub nodes: u16,
+}
+
+/// The paper's number and place of a reply without code, with the steps of the run (0 before it).
+#[derive(Clone, Copy, Debug, PartialEq, Eq)]
+pub struct Refusal {
+    pub number: u8,
+    pub place: usize,
+    pub steps: u16,
+}
+
+/// Finished code: the steps of the run, the nodes of the code, and the bytes of its file.
+#[derive(Clone, Copy, Debug, PartialEq, Eq)]
+pub struct Made {
+    pub steps: u16,
+    pub nodes: u16,
+    pub length: usize,
+}
+
+#[repr(C)]
+struct CheckReply {
+    number: u8,
+    place: usize,
+}
+
+#[repr(C)]
+struct ReadReply {
+    number: u8,
+    place: usize,
+    counts: Counts,
+}
+
+#[repr(C)]
+struct WriteReply {
+    number: u8,
+    place: usize,
+    length: usize,
+}
+
+#[repr(C)]
+struct MakeReply {
+    number: u8,
+    place: usize,
+    steps: u16,
+    nodes: u16,
+}
+
+// A slice is passed as a pointer and a length.
+#[link(name = "scriptmaker", kind = "static")]
+unsafe extern "C" {
+    fn scriptmaker_read(
+        file: *const u8,
+        _: usize,
+        parameters: *mut u16,
+        _: usize,
+        results: *mut u16,
+        _: usize,
+        inputs: *mut u16,
+        _: usize,
+        kinds: *mut u8,
+        _: usize,
+        a: *mut u16,
+        _: usize,
+        b: *mut u16,
+        _: usize,
+        c: *mut u16,
+        _: usize,
+        values: *mut i32,
+        _: usize,
+    ) -> ReadReply;
+    fn scriptmaker_write(
+        counts: Counts,
+        parameters: *const u16,
+        _: usize,
+        results: *const u16,
+        _: usize,
+        inputs: *const u16,
+        _: usize,
+        kinds: *const u8,
+        _: usize,
+        a: *const u16,
+        _: usize,
+        b: *const u16,
+        _: usize,
+        c: *const u16,
+        _: usize,
+        values: *const i32,
+        _: usize,
+        out: *mut u8,
+        _: usize,
+    ) -> WriteReply;
+    fn scriptmaker_check(
+        counts: Counts,
+        parameters: *const u16,
+        _: usize,
+        results: *const u16,
+        _: usize,
+        inputs: *const u16,
+        _: usize,
+        kinds: *const u8,
+        _: usize,
+        a: *const u16,
+        _: usize,
+        b: *const u16,
+        _: usize,
+        c: *const u16,
+        _: usize,
+        values: *const i32,
+        _: usize,
+    ) -> CheckReply;
+    fn scriptmaker_make(
+        counts: Counts,
+        parameters: *const u16,
+        _: usize,
+        results: *const u16,
+        _: usize,
+        inputs: *const u16,
+        _: usize,
+        kinds: *const u8,
+        _: usize,
+        a: *const u16,
+        _: usize,
+        b: *const u16,
+        _: usize,
+        c: *const u16,
+        _: usize,
+        values: *const i32,
+        _: usize,
+        settings: *const i32,
+        _: usize,
+        fuel: u32,
+        cells: *mut u32,
+        _: usize,
+        words: *mut u64,
+        _: usize,
+        codes: *mut u64,
+        _: usize,
+        out: *mut u8,
+        _: usize,
+    ) -> MakeReply;
+    fn scriptmaker_bare_run(
+        counts: Counts,
+        parameters: *const u16,
+        _: usize,
+        results: *const u16,
+        _: usize,
+        inputs: *const u16,
+        _: usize,
+        kinds: *const u8,
+        _: usize,
+        a: *const u16,
+        _: usize,
+        b: *const u16,
+        _: usize,
+        c: *const u16,
+        _: usize,
+        values: *const i32,
+        _: usize,
+        settings: *const i32,
+        _: usize,
+        fuel: u32,
+        cells: *mut u32,
+        _: usize,
+        words: *mut u64,
+        _: usize,
+        codes: *mut u64,
+        _: usize,
+        out: *mut u8,
+        _: usize,
+    ) -> MakeReply;
+}
+
+/// The type of `scriptmaker_make` and `scriptmaker_bare_run`.
+type Run = unsafe extern "C" fn(
+    Counts,
+    *const u16,
+    usize,
+    *const u16,
+    usize,
+    *const u16,
+    usize,
+    *const u8,
+    usize,
+    *const u16,
+    usize,
+    *const u16,
+    usize,
+    *const u16,
+    usize,
+    *const i32,
+    usize,
+    *const i32,
+    usize,
+    u32,
+    *mut u32,
+    usize,
+    *mut u64,
+    usize,
+    *mut u64,
+    usize,
+    *mut u8,
+    usize,
+) -> MakeReply;
+
+/// The counts and tables of a script, whatever they hold.
+#[derive(Clone, Debug)]
+pub struct Script {
+    pub counts: Counts,
+    pub parameters: Vec<u16>,
+    pub results: Vec<u16>,
+    pub inputs: Vec<u16>,
+    pub kinds: Vec<u8>,
+    pub a: Vec<u16>,
+    pub b: Vec<u16>,
+    pub c: Vec<u16>,
+    pub values: Vec<i32>,
+}
+
+/// The stores of a run.
+pub struct Stores {
+    pub cells: Vec<u32>,
+    pub words: Vec<u64>,
+    pub codes: Vec<u64>,
+}
+
+impl Stores {
+    /// Stores that suffice for runs with up to this fuel.
+    pub fn new(fuel: u32) -> Stores {
+        let places = fuel as usize + MAX_INPUTS;
+        Stores {
+            cells: vec![0; places],
+            words: vec![0; places],
+            codes: vec![0; places + fuel as usize],
+        }
+    }
+}
+
+impl Script {
+    /// Tables as long as any script needs.
+    pub fn new() -> Script {
+        Script {
+            counts: Counts::default(),
+            parameters: vec![0; MAX_TYPES],
+            results: vec![0; MAX_TYPES],
+            inputs: vec![0; MAX_INPUTS],
+            kinds: vec![0; MAX_NODES],
+            a: vec![0; MAX_NODES],
+            b: vec![0; MAX_NODES],
+            c: vec![0; MAX_NODES],
+            values: vec![0; MAX_NODES],
+        }
+    }
+
+    /// Reads a script file into these tables: refusals 1 to 8, then 21.
+    pub fn read(&mut self, file: &[u8]) -> Result<(), Refusal> {
+        // SAFETY: each pointer and length come from one slice, and no two of them overlap.
+        let reply = unsafe {
+            scriptmaker_read(
+                file.as_ptr(),
+                file.len(),
+                self.parameters.as_mut_ptr(),
+                self.parameters.len(),
+                self.results.as_mut_ptr(),
+                self.results.len(),
+                self.inputs.as_mut_ptr(),
+                self.inputs.len(),
+                self.kinds.as_mut_ptr(),
+                self.kinds.len(),
+                self.a.as_mut_ptr(),
+                self.a.len(),
+                self.b.as_mut_ptr(),
+                self.b.len(),
+                self.c.as_mut_ptr(),
+                self.c.len(),
+                self.values.as_mut_ptr(),
+                self.values.len(),
+            )
+        };
+        answer(reply.number, reply.place, 0, ())?;
+        self.counts = reply.counts;
+        Ok(())
+    }
+
+    /// Writes the script file of these tables, and gives its length: refusals 1 to 8, then 21.
+    pub fn write(&self, out: &mut [u8]) -> Result<usize, Refusal> {
+        // SAFETY: each pointer and length come from one slice, and `out` overlaps no other.
+        let reply = unsafe {
+            scriptmaker_write(
+                self.counts,
+                self.parameters.as_ptr(),
+                self.parameters.len(),
+                self.results.as_ptr(),
+                self.results.len(),
+                self.inputs.as_ptr(),
+                self.inputs.len(),
+                self.kinds.as_ptr(),
+                self.kinds.len(),
+                self.a.as_ptr(),
+                self.a.len(),
+                self.b.as_ptr(),
+                self.b.len(),
+                self.c.as_ptr(),
+                self.c.len(),
+                self.values.as_ptr(),
+                self.values.len(),
+                out.as_mut_ptr(),
+                out.len(),
+            )
+        };
+        answer(reply.number, reply.place, 0, reply.length)
+    }
+
+    /// Checks the marks: refusals 1 to 11.
+    pub fn check(&self) -> Result<(), Refusal> {
+        // SAFETY: each pointer and length come from one slice; nothing is written.
+        let reply = unsafe {
+            scriptmaker_check(
+                self.counts,
+                self.parameters.as_ptr(),
+                self.parameters.len(),
+                self.results.as_ptr(),
+                self.results.len(),
+                self.inputs.as_ptr(),
+                self.inputs.len(),
+                self.kinds.as_ptr(),
+                self.kinds.len(),
+                self.a.as_ptr(),
+                self.a.len(),
+                self.b.as_ptr(),
+                self.b.len(),
+                self.c.as_ptr(),
+                self.c.len(),
+                self.values.as_ptr(),
+                self.values.len(),
+            )
+        };
+        answer(reply.number, reply.place, 0, ())
+    }
+
+    /// Makes the script for settings, and writes the file of the finished code to `out`.
+    pub fn make(&self, settings: &[i32], fuel: u32, stores: &mut Stores, out: &mut [u8]) -> Result<Made, Refusal> {
+        self.run(scriptmaker_make, settings, fuel, stores, out)
+    }
+
+    /// The bare run, which leaves out refusals 9 to 11.
+    pub fn bare_run(&self, settings: &[i32], fuel: u32, stores: &mut Stores, out: &mut [u8]) -> Result<Made, Refusal> {
+        self.run(scriptmaker_bare_run, settings, fuel, stores, out)
+    }
+
+    fn run(&self, run: Run, settings: &[i32], fuel: u32, stores: &mut Stores, out: &mut [u8]) -> Result<Made, Refusal> {
+        // SAFETY: each pointer and length come from one slice, and the stores and `out` overlap nothing.
+        let reply = unsafe {
+            run(
+                self.counts,
+                self.parameters.as_ptr(),
+                self.parameters.len(),
+                self.results.as_ptr(),
+                self.results.len(),
+                self.inputs.as_ptr(),
+                self.inputs.len(),
+                self.kinds.as_ptr(),
+                self.kinds.len(),
+                self.a.as_ptr(),
+                self.a.len(),
+                self.b.as_ptr(),
+                self.b.len(),
+                self.c.as_ptr(),
+                self.c.len(),
+                self.values.as_ptr(),
+                self.values.len(),
+                settings.as_ptr(),
+                settings.len(),
+                fuel,
+                stores.cells.as_mut_ptr(),
+                stores.cells.len(),
+                stores.words.as_mut_ptr(),
+                stores.words.len(),
+                stores.codes.as_mut_ptr(),
+                stores.codes.len(),
+                out.as_mut_ptr(),
+                out.len(),
+            )
+        };
+        let length = 8 + 4 * self.counts.inputs as usize + 13 * reply.nodes as usize;
+        answer(
+            reply.number,
+            reply.place,
+            reply.steps,
+            Made {
+                steps: reply.steps,
+                nodes: reply.nodes,
+                length,
+            },
+        )
+    }
+}
+
+/// A reply of number 0 is a success.
+fn answer<T>(number: u8, place: usize, steps: u16, success: T) -> Result<T, Refusal> {
+    if number == 0 {
+        Ok(success)
+    } else {
+        Err(Refusal { number, place, steps })
+    }
+}
