@@ -104,9 +104,9 @@ module _ {n : Counts} {kinds a b c : List ℕ} {values : List ℤ} {x y w : List
 -- ---- the entry: what the tables' check refuses is told, and past it the columns are listed
 
 module _ {n : Counts} {v : Verdict} (x : Tables) (before : List ℕ) (told : refusalOf v ≡ tablesRefusal (n .types) (n .inputs) (n .nodes) x) where
-  pub lists-refused : {f : Told.Refusal} → v ≡ Verdict.Refused f → ListsTables n x before before (Refused f)
+  pub lists-refused : {f : Told.Refusal} {r : Listing} → v ≡ Verdict.Refused f → r ≡ Refused f → ListsTables n x before before r
   unfolding listRefusal listed listedOutput refusalOf orElse
-  lists-refused q = record { reply = rw (← told, q); output = rw (← told, q) }
+  lists-refused q e = record { reply = rw (e, ← told, q); output = rw (← told, q) }
 
   pub lists-passed :
       {after : List ℕ} {r : Listing} → v ≡ Verdict.Passed → Lists n (x .kinds) (x .a) (x .b) (x .c) (x .values) before after r →

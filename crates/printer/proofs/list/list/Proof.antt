@@ -5,7 +5,7 @@ use Rattle.printer.proofs.list.list.Statement.{statement}
 use Rattle.printer.proofs.list.list.Tie as tie
 
 returns : tie.Need-returns
-returns c = lists-refused _ _ (c .before .before .before .tables-refusal .ensures) (c .before .f .given .1)
+returns c = lists-refused _ _ (c .before .before .before .tables-refusal .ensures) (c .before .f .given .1) (search needs)
 
 returns-2 : tie.Need-returns-2
 returns-2 c =
