@@ -6,6 +6,9 @@
 mod assemble;
 #[path = "../tests/reference/src/checker.rs"]
 mod checker;
+#[path = "../tests/reference/src/listing.rs"]
+#[allow(dead_code)]
+mod listing;
 #[path = "../tests/reference/src/script.rs"]
 #[allow(dead_code)]
 mod script;
@@ -37,6 +40,7 @@ struct Case {
     tuned_stores: tuned::Stores,
     scratch: Box<tuned::Scratch>,
     out: Vec<u8>,
+    text: Vec<u8>,
 }
 
 impl Case {
@@ -48,13 +52,20 @@ impl Case {
         let tuned = tuned::Script {
             types: input.script.types.clone(),
             inputs: input.script.inputs.clone(),
-            nodes: nodes.map(|n| tuned::Node { kind: n.kind, fields: n.fields, value: n.value }).collect(),
+            nodes: nodes
+                .map(|n| tuned::Node {
+                    kind: n.kind,
+                    fields: n.fields,
+                    value: n.value,
+                })
+                .collect(),
         };
         Case {
             stores: scriptmaker::Stores::new(input.fuel),
             tuned_stores: tuned::Stores::new(input.fuel),
             scratch: tuned::Scratch::new(),
             out: vec![0; scriptmaker::MAX_FILE],
+            text: vec![0; scriptmaker::MAX_LISTING],
             file,
             library,
             tuned,
@@ -63,15 +74,29 @@ impl Case {
     }
 
     fn make_library(&mut self) -> Reply {
-        match self.library.make(&self.input.settings, self.input.fuel, &mut self.stores, &mut self.out) {
-            Ok(made) => Reply { number: 0, place: 0, steps: made.steps, nodes: made.nodes },
-            Err(f) => Reply { number: f.number, place: f.place, steps: f.steps, nodes: 0 },
+        match self
+            .library
+            .make(&self.input.settings, self.input.fuel, &mut self.stores, &mut self.out)
+        {
+            Ok(made) => Reply {
+                number: 0,
+                place: 0,
+                steps: made.steps,
+                nodes: made.nodes,
+            },
+            Err(f) => Reply {
+                number: f.number,
+                place: f.place,
+                steps: f.steps,
+                nodes: 0,
+            },
         }
     }
 
     fn make_tuned(&mut self) -> Reply {
         let (fuel, scratch, stores) = (self.input.fuel, &mut self.scratch, &mut self.tuned_stores);
-        self.tuned.make(&self.input.settings, fuel, scratch, stores, &mut self.out)
+        self.tuned
+            .make(&self.input.settings, fuel, scratch, stores, &mut self.out)
     }
 
     fn make_reference(&mut self) -> Result<specializer::Made, script::Reply> {
@@ -83,11 +108,15 @@ impl Case {
     }
 
     fn check_tuned(&mut self) -> (u8, usize) {
-        self.tuned.check(&mut self.scratch).map_or_else(|f| (f.number, f.place), |()| (0, 0))
+        self.tuned
+            .check(&mut self.scratch)
+            .map_or_else(|f| (f.number, f.place), |()| (0, 0))
     }
 
     fn check_by_passes(&mut self) -> (u8, usize) {
-        self.tuned.check_by_passes(&mut self.scratch).map_or_else(|f| (f.number, f.place), |()| (0, 0))
+        self.tuned
+            .check_by_passes(&mut self.scratch)
+            .map_or_else(|f| (f.number, f.place), |()| (0, 0))
     }
 
     fn check_reference(&self) -> (u8, usize) {
@@ -95,8 +124,29 @@ impl Case {
         checked.map_or_else(|f| (f.number, f.place), |_| (0, 0))
     }
 
-    /// All three reply alike, and leave the same file.
+    fn list_library(&mut self) -> usize {
+        self.library.list(&mut self.text).expect("room for any listing")
+    }
+
+    fn list_reference(&self) -> String {
+        let script = script::read(&self.file).expect("past 1 to 8");
+        listing::listing(&script)
+    }
+
+    fn list_tuned(&mut self) -> usize {
+        self.tuned
+            .list(&mut self.scratch, &mut self.text)
+            .expect("room for any listing")
+    }
+
+    /// All three reply alike, and leave the same file and the same listing.
     fn agree(&mut self) -> Reply {
+        let length = self.list_library();
+        let text = self.text[..length].to_vec();
+        assert_eq!(text, self.list_reference().as_bytes(), "{}", self.input.name);
+        self.text.fill(0);
+        assert_eq!(length, self.list_tuned(), "{}", self.input.name);
+        assert_eq!(text, self.text[..length], "{}", self.input.name);
         let check = self.check_library();
         assert_eq!(check, self.check_reference(), "{}", self.input.name);
         assert_eq!(check, self.check_tuned(), "{}", self.input.name);
@@ -113,9 +163,19 @@ impl Case {
             Ok(made) => {
                 let bytes = script::encode(&made.script);
                 assert_eq!(bytes, file[..bytes.len()], "{}", self.input.name);
-                Reply { number: 0, place: 0, steps: made.steps as u16, nodes: made.script.nodes.len() as u16 }
+                Reply {
+                    number: 0,
+                    place: 0,
+                    steps: made.steps as u16,
+                    nodes: made.script.nodes.len() as u16,
+                }
             }
-            Err(f) => Reply { number: f.number, place: f.place, steps: f.steps as u16, nodes: 0 },
+            Err(f) => Reply {
+                number: f.number,
+                place: f.place,
+                steps: f.steps as u16,
+                nodes: 0,
+            },
         };
         assert_eq!(library, reference, "{}", self.input.name);
         library
@@ -150,11 +210,20 @@ unsafe extern "C" {
 /// The processor's time of this thread, in seconds: what other programs take does not count.
 fn now() -> f64 {
     const CLOCK_THREAD_CPUTIME_ID: i32 = 3;
-    let mut time = Timespec { seconds: 0, nanoseconds: 0 };
+    let mut time = Timespec {
+        seconds: 0,
+        nanoseconds: 0,
+    };
     // SAFETY: the pointer is good for the call.
     unsafe { clock_gettime(CLOCK_THREAD_CPUTIME_ID, &mut time) };
     time.seconds as f64 + time.nanoseconds as f64 * 1e-9
 }
+
+const LIST: [Job; 3] = [
+    ("library", |c| _ = black_box(c.list_library())),
+    ("reference", |c| _ = black_box(c.list_reference().len())),
+    ("tuned", |c| _ = black_box(c.list_tuned())),
+];
 
 fn time(case: &mut Case, job: fn(&mut Case), calls: usize) -> f64 {
     let start = now();
@@ -172,8 +241,10 @@ fn median(mut xs: Vec<f64>) -> (f64, f64, f64) {
 
 /// For each job the seconds of a call in each repeat; the jobs take turns.
 fn measure(case: &mut Case, jobs: &[Job]) -> Vec<Vec<f64>> {
-    let calls: Vec<usize> =
-        jobs.iter().map(|&(_, job)| (BATCH / time(case, job, 3).max(1e-9)).ceil() as usize).collect();
+    let calls: Vec<usize> = jobs
+        .iter()
+        .map(|&(_, job)| (BATCH / time(case, job, 3).max(1e-9)).ceil() as usize)
+        .collect();
     let mut taken = vec![vec![]; jobs.len()];
     for repeat in 0..REPEATS {
         for turn in 0..jobs.len() {
@@ -196,7 +267,6 @@ fn row(what: &str, case: &mut Case, jobs: &[Job]) -> Vec<f64> {
     println!();
     middle
 }
-
 
 fn main() {
     let words: Vec<String> = std::env::args().skip(1).collect();
@@ -222,7 +292,11 @@ fn main() {
 fn once(cases: &mut [Case], job: &str, index: &str) {
     let case = &mut cases[index.parse::<usize>().expect("an input's number")];
     let (what, who) = job.split_once('-').expect("make-library and the like");
-    let jobs: &[Job] = if what == "make" { &MAKE } else { &CHECK };
+    let jobs: &[Job] = match what {
+        "make" => &MAKE,
+        "check" => &CHECK,
+        _ => &LIST,
+    };
     let job = jobs.iter().find(|job| job.0 == who).expect("a job");
     println!("{}", case.input.name);
     for _ in 0..20 {
@@ -242,6 +316,9 @@ fn all(cases: &mut [Case], plot_to: &str) {
     for case in cases.iter_mut() {
         row("make", case, &MAKE);
     }
+    for case in cases.iter_mut() {
+        row("list", case, &LIST);
+    }
     let mut panels = vec![];
     let fuels: Vec<u32> = (0..5).map(|k| 1000 << k).collect();
     let runs: Vec<(f64, Input)> = fuels.iter().map(|&fuel| (fuel as f64, inputs::powers(fuel))).collect();
@@ -258,8 +335,13 @@ fn all(cases: &mut [Case], plot_to: &str) {
 
 /// The time of each job over inputs of growing size.
 fn grow(what: &str, size: &str, jobs: &[Job], over: Vec<(f64, Input)>) -> plot::Panel {
-    let mut lines: Vec<plot::Line> =
-        jobs.iter().map(|job| plot::Line { name: job.0.to_string(), points: vec![] }).collect();
+    let mut lines: Vec<plot::Line> = jobs
+        .iter()
+        .map(|job| plot::Line {
+            name: job.0.to_string(),
+            points: vec![],
+        })
+        .collect();
     for (x, input) in over {
         let mut case = Case::new(input);
         case.agree();
@@ -269,7 +351,14 @@ fn grow(what: &str, size: &str, jobs: &[Job], over: Vec<(f64, Input)>) -> plot::
         }
     }
     for line in &lines {
-        println!("       {what} over {size}, {}: slope {:.2}", line.name, plot::slope(&line.points));
+        println!(
+            "       {what} over {size}, {}: slope {:.2}",
+            line.name,
+            plot::slope(&line.points)
+        );
     }
-    plot::Panel { title: format!("{what}: µs over {size}"), lines }
+    plot::Panel {
+        title: format!("{what}: µs over {size}"),
+        lines,
+    }
 }

@@ -1,10 +1,11 @@
-/* Makes a script for one model's settings: make SCRIPT MADE [SETTING..]. It prints the reply and writes the made file. */
+/* Makes a script for one model's settings: make SCRIPT MADE [SETTING..]. It prints the reply and the
+ * listing of the code, and writes the made file. */
 #include <stdio.h>
 #include <stdlib.h>
 
 #include "scriptmaker.h"
 
-static uint8_t file[SCRIPTMAKER_FILE + 1], out[SCRIPTMAKER_FILE];
+static uint8_t file[SCRIPTMAKER_FILE + 1], out[SCRIPTMAKER_FILE], text[SCRIPTMAKER_LISTING];
 static struct scriptmaker_script script;
 static struct scriptmaker_stores stores;
 
@@ -44,5 +45,11 @@ int main(int count, char **words) {
     if (!(f = fopen(words[2], "wb"))) return perror(words[2]), 2;
     if (fwrite(out, 1, length, f) != length || fclose(f)) return perror(words[2]), 2;
     printf("wrote %zu bytes\n", length);
+
+    read = scriptmaker_read(out, length, SCRIPTMAKER_OF(&script));
+    if (read.number) return refused(read.number, read.place);
+    struct scriptmaker_write_reply list = scriptmaker_list(read.counts, SCRIPTMAKER_OF(&script), text, sizeof text);
+    if (list.number) return refused(list.number, list.place);
+    fwrite(text, 1, list.length, stdout);
     return 0;
 }

@@ -1,6 +1,7 @@
-//! Makes a script for one model's settings: make SCRIPT MADE [SETTING..]. It prints the reply and writes the made file.
+//! Makes a script for one model's settings: make SCRIPT MADE [SETTING..]. It prints the reply and
+//! the listing of the code, and writes the made file.
 
-use scriptmaker::{Refusal, Script, Stores, MAX_FILE};
+use scriptmaker::{Refusal, Script, Stores, MAX_FILE, MAX_LISTING};
 use std::process::ExitCode;
 
 const FUEL: u32 = 4000;
@@ -17,6 +18,11 @@ fn main() -> ExitCode {
         Ok(bytes) => {
             std::fs::write(made, &bytes).expect("the made file");
             println!("wrote {} bytes", bytes.len());
+            let mut code = Script::new();
+            code.read(&bytes).expect("a good file");
+            let mut text = vec![0; MAX_LISTING];
+            let length = code.list(&mut text).expect("room for any listing");
+            print!("{}", String::from_utf8_lossy(&text[..length]));
             ExitCode::SUCCESS
         }
         Err(()) => ExitCode::FAILURE,

@@ -24,6 +24,7 @@ enum {
     SCRIPTMAKER_HEAP = SCRIPTMAKER_FUEL + 16,     /* places of cells and words for the greatest fuel */
     SCRIPTMAKER_CODES = 2 * SCRIPTMAKER_FUEL + 16, /* places of codes for the greatest fuel */
     SCRIPTMAKER_FILE = 8 + 6 * 64 + 4 * 16 + 13 * 4096, /* bytes of the longest script file */
+    SCRIPTMAKER_LISTING = 65536, /* no listing is longer */
     SCRIPTMAKER_STACK = 4 * 1024 * 1024
 };
 
@@ -46,7 +47,7 @@ struct scriptmaker_read_reply {
 struct scriptmaker_write_reply {
     uint8_t number;
     size_t place;
-    size_t length; /* bytes written; 0 after a refusal */
+    size_t length; /* bytes of the file or the listing; 0 after a refusal */
 };
 
 struct scriptmaker_make_reply {
@@ -69,6 +70,10 @@ struct scriptmaker_read_reply scriptmaker_read(const uint8_t *file, size_t file_
 /* Tables shorter than the counts: 1; the refusals of the tables' file; 21 for a short output, which then stays as it was. */
 struct scriptmaker_write_reply scriptmaker_write(struct scriptmaker_counts counts, SCRIPTMAKER_COLUMNS(const),
                                                  uint8_t *out, size_t out_length);
+
+/* Refusals 1 to 8 as the file of the tables, then 21; what is not refused is listed into the output, a newline at its end. */
+struct scriptmaker_write_reply scriptmaker_list(struct scriptmaker_counts counts, SCRIPTMAKER_COLUMNS(const),
+                                                uint8_t *out, size_t out_length);
 
 /* Refusals 1 to 8 as the file of the tables, then 9 to 11. */
 struct scriptmaker_check_reply scriptmaker_check(struct scriptmaker_counts counts, SCRIPTMAKER_COLUMNS(const));

@@ -8,6 +8,9 @@ pub const MAX_FUEL: u32 = 16000;
 /// The longest script file.
 pub const MAX_FILE: usize = 8 + 6 * MAX_TYPES + 4 * MAX_INPUTS + 13 * MAX_NODES;
 
+/// No listing is longer.
+pub const MAX_LISTING: usize = 65536;
+
 /// How many types, inputs and nodes a script has.
 #[repr(C)]
 #[derive(Clone, Copy, Debug, Default, PartialEq, Eq)]
@@ -85,6 +88,27 @@ unsafe extern "C" {
         _: usize,
     ) -> ReadReply;
     fn scriptmaker_write(
+        counts: Counts,
+        parameters: *const u16,
+        _: usize,
+        results: *const u16,
+        _: usize,
+        inputs: *const u16,
+        _: usize,
+        kinds: *const u8,
+        _: usize,
+        a: *const u16,
+        _: usize,
+        b: *const u16,
+        _: usize,
+        c: *const u16,
+        _: usize,
+        values: *const i32,
+        _: usize,
+        out: *mut u8,
+        _: usize,
+    ) -> WriteReply;
+    fn scriptmaker_list(
         counts: Counts,
         parameters: *const u16,
         _: usize,
@@ -302,6 +326,35 @@ impl Script {
         // SAFETY: each pointer and length come from one slice, and `out` overlaps no other.
         let reply = unsafe {
             scriptmaker_write(
+                self.counts,
+                self.parameters.as_ptr(),
+                self.parameters.len(),
+                self.results.as_ptr(),
+                self.results.len(),
+                self.inputs.as_ptr(),
+                self.inputs.len(),
+                self.kinds.as_ptr(),
+                self.kinds.len(),
+                self.a.as_ptr(),
+                self.a.len(),
+                self.b.as_ptr(),
+                self.b.len(),
+                self.c.as_ptr(),
+                self.c.len(),
+                self.values.as_ptr(),
+                self.values.len(),
+                out.as_mut_ptr(),
+                out.len(),
+            )
+        };
+        answer(reply.number, reply.place, 0, reply.length)
+    }
+
+    /// Lists the script of these tables, and gives the length of the text: refusals 1 to 8, then 21.
+    pub fn list(&self, out: &mut [u8]) -> Result<usize, Refusal> {
+        // SAFETY: each pointer and length come from one slice, and `out` overlaps no other.
+        let reply = unsafe {
+            scriptmaker_list(
                 self.counts,
                 self.parameters.as_ptr(),
                 self.parameters.len(),
