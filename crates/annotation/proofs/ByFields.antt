@@ -2,7 +2,7 @@
 -- at its fields, children or not. Assumes nothing.
 use Prim.Native.Nat.{ℕ, zero, suc, _+_, _<_}
 use mathlib.Core.Path.{_≡_, refl, sym, ap, _∙_}
-use mathlib.Core.Bool.{Bool, true, false, _&&_, and-true}
+use mathlib.Core.Bool.{true, and-true}
 use mathlib.Core.List.{List, [], _∷_}
 use native.Mathlib.Omega.{arith}
 use lib.ListN.{length, getD}
@@ -10,15 +10,15 @@ use lib.Dec.{ltb}
 use borrow.Author.Tests.{ltb-true}
 use Rattle.lambdamix.specs.declared.Use.{Use}
 use Rattle.lambdamix.specs.declared.Use.the-variants.{Nothing, Name, Binder, Child, ParameterType, Operation}
-use Rattle.lambdamix.specs.Script.{Script, Node, Step, Row, row, constant, variable, function, dynamicFunction, dynamicIf, rows, rowOf, blankRow, nodeAt, nodeCount, fields, ifChild, childFields, children}
-use Rattle.lambdamix.specs.Falling.{falling, below}
-use Rattle.lambdamix.specs.Term.{Term, Terms, build, terms, childAt, treeStep, tree, blankTerm, arity}
-use Rattle.lambdamix.specs.Types.{Ty, S, D, sameType, typeOf, typeCount}
+use Rattle.lambdamix.specs.Script.{Script, Node, Row, row, constant, variable, function, dynamicFunction, dynamicIf, rows, rowOf, blankRow, nodeAt, nodeCount, fields, ifChild, childFields, children}
+use Rattle.lambdamix.specs.Falling.{below}
+use Rattle.lambdamix.specs.Term.{Term, build, terms, childAt, treeStep, tree, blankTerm, arity}
+use Rattle.lambdamix.specs.Types.{Ty, D, sameType, typeCount}
 use Rattle.lambdamix.specs.Typing.{Context}
 use Rattle.lambdamix.specs.Checker.{Checked, typed, faulty, Verdict, both, gather, rule, own, check, checkAll, dynRule, allDynamic, abstrDynRule, provided}
 use Rattle.lambdamix.proofs.Falling.{falling-step, below-at}
 use Rattle.lambdamix.proofs.Tests.{and-both}
-use Rattle.script.specs.Kinds.{useOf, usesTable}
+use Rattle.script.specs.Kinds.{useOf}
 use Rattle.script.specs.Refusals.{fieldRight, fieldsRight, nodeFits}
 use Rattle.script.proofs.TableLaws.{row-uses}
 use Rattle.annotation.specs.Fields.{lateRule, stepRule, fieldCheck, parameterBy, parameterOf, innerContext}

@@ -1,33 +1,32 @@
 -- The stack of binders and the context that it holds: what stays of it, what a binder adds, and that a name found on it, or else
 -- among the inputs, has the type that the context gives. Assumes nothing.
 use Prim.Native.Nat.{ℕ, zero, suc, _+_, _-_, _≤_, _<_}
-use mathlib.Core.Path.{_≡_, refl, sym, ap, _∙_}
+use mathlib.Core.Path.{_≡_, refl, sym, ap}
 use mathlib.Core.Bool.{Bool, true, false}
 use mathlib.Core.List.{List, [], _∷_}
 use mathlib.Core.Option.{Option, none, some}
 use native.Mathlib.Omega.{arith}
-use native.Mathlib.Nat.{add-zero, zero-add}
+use native.Mathlib.Nat.{zero-add}
 use native.Mathlib.Numerals.{add-one}
-use lib.ListN.{length, getD, set, List·getD-eq-default}
+use lib.ListN.{length, getD, set}
 use lib.Seq.{getD-set-same, getD-set-other}
-use lib.Dec.{leb, ltb, eqb}
+use lib.Dec.{ltb}
 use borrow.Author.Tests.{ltb-true, ltb-false, leb-true, eq-eqb, ne-eqb}
 use Rattle.lambdamix.specs.declared.Use.{Use}
 use Rattle.lambdamix.specs.declared.Use.the-variants.{Binder}
 use Rattle.lambdamix.specs.Script.{Script, Node, nodeAt, nodeCount}
-use Rattle.lambdamix.specs.Types.{Ty, S, D, typeOf, typeCount}
+use Rattle.lambdamix.specs.Types.{Ty, typeOf, typeCount}
 use Rattle.lambdamix.specs.Typing.{Context, bind, typeAt, typeAtBy, inputType, inputTypeBy, contextFrom, inputContext}
-use Rattle.lambdamix.specs.Checker.{Checked, typed, own, provided, varRule}
+use Rattle.lambdamix.specs.Checker.{typed, own, provided, varRule}
 use Rattle.script.specs.declared.Counts.{Counts}
 use Rattle.script.specs.declared.NodeNumber.{NodeNumber}
 use Rattle.script.specs.declared.TypeNumber.{TypeNumber}
 use Rattle.script.specs.Refusals.{inputFits}
 use Rattle.script.specs.Tables.{Tables, rowInput, rowNode}
 use Rattle.annotation.specs.declared.typing.Typed.{Typed}
-use Rattle.annotation.specs.declared.typing.Typed.the-variants.{Is}
 use Rattle.annotation.specs.Fields.{pick, parameterOf, innerContext}
 use Rattle.annotation.specs.Answers.{scriptOf, Passes, meaning, Known, Stands, givenBy, bound, Binds, no-binder, one-more, Agree, Enters}
-use Rattle.annotation.proofs.Passing.{Sound, passes-sound, input-count, input-row, node-count, node-row}
+use Rattle.annotation.proofs.Passing.{passes-sound, input-count, input-row, node-count, node-row}
 use Rattle.annotation.proofs.TypeNumbers.{type-zero, type-one}
 use Rattle.annotation.proofs.ByFields.{parameter-known}
 

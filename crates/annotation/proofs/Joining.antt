@@ -1,6 +1,6 @@
 -- The checker's reply is joined from two: what the first check refuses is told, else the second's reply. Assumes nothing.
-use mathlib.Core.Path.{_≡_, refl, sym, ap, _∙_}
-use mathlib.Core.Option.{Option, none, some}
+use mathlib.Core.Path.{_≡_, sym, ap, _∙_}
+use mathlib.Core.Option.{Option, none}
 use Rattle.lambdamix.specs.Checker.{Refusal}
 use Rattle.lambdamix.specs.Structure.{orElse}
 use Rattle.script.specs.declared.Verdict.{Verdict}

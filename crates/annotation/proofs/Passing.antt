@@ -2,25 +2,23 @@
 -- script of the tables has the tables' rows. Assumes nothing.
 use Prim.Native.Nat.{ℕ, zero, suc, _+_, _≤_, _<_}
 use mathlib.Core.Path.{_≡_, refl, sym, ap, _∙_}
-use mathlib.Core.Bool.{Bool, true, false, _&&_}
-use mathlib.Core.List.{List, [], _∷_}
+use mathlib.Core.Bool.{Bool, true, false}
 use mathlib.Core.Logic.{⊎-elim}
 use mathlib.Core.Option.{Option, none, some}
 use native.Mathlib.Omega.{arith}
 use native.Mathlib.Nat.{add-zero, zero-add, eq-or-lt-of-le}
 use lib.ListN.{length, getD}
-use lib.Dec.{leb, ltb}
+use lib.Dec.{leb}
 use borrow.Author.Tests.{leb-true}
-use Rattle.lambdamix.specs.Script.{Script, FunctionType, Node, nodeAt, nodeCount, blankNode}
+use Rattle.lambdamix.specs.Script.{Script, nodeAt, nodeCount}
 use Rattle.lambdamix.specs.Types.{blankType}
-use Rattle.lambdamix.specs.Checker.{Refusal}
 use Rattle.lambdamix.specs.Limits.{maxTypes, maxInputs, maxNodes}
 use Rattle.lambdamix.specs.Structure.{firstBy, firstFailing, orElse}
 use Rattle.lambdamix.proofs.Tests.{and-both}
 use Rattle.script.specs.declared.Counts.{Counts}
-use Rattle.script.specs.File.{numbered, typeOffset, inputOffset, nodeOffset}
+use Rattle.script.specs.File.{numbered}
 use Rattle.script.specs.Refusals.{refusedUnless, refusedRecord, countsRight, typeFits, inputFits, nodeFits, contentOf, contentRefusal, scriptRefusal}
-use Rattle.script.specs.Tables.{Tables, rowType, rowInput, rowNode, longEnough, tablesScript, tablesRefusal}
+use Rattle.script.specs.Tables.{Tables, rowType, rowInput, rowNode, tablesScript, tablesRefusal}
 use Rattle.annotation.specs.Answers.{scriptOf, Passes}
 
 or-none : {A : Type 0} (p q : Option A) → orElse p q ≡ none → (p ≡ none) × (q ≡ none)

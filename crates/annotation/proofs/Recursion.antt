@@ -23,7 +23,7 @@ use Rattle.script.specs.Tables.{Tables, rowNode}
 use Rattle.annotation.specs.declared.typing.Typed.{Typed}
 use Rattle.annotation.specs.declared.typing.Typed.the-variants.{Is}
 use Rattle.annotation.specs.Fields.{stepRule, fieldCheck, innerContext}
-use Rattle.annotation.specs.Answers.{tablesOf, scriptOf, Passes, meaning, Known, Stands, rootAnswer, Binds, no-binder, Agree, Enters, Stepped, Answers}
+use Rattle.annotation.specs.Answers.{tablesOf, scriptOf, Passes, meaning, Known, Stands, rootAnswer, no-binder, Agree, Enters, Stepped, Answers}
 use Rattle.annotation.proofs.Passing.{passes-sound, node-count, node-row}
 use Rattle.annotation.proofs.TypeNumbers.{type-one}
 use Rattle.annotation.proofs.ByFields.{child-below, check-fields}

@@ -1,16 +1,15 @@
 -- A node's answer from the answers at its fields: a fault goes first, the lowest of several; else the node's own rule on the
 -- numbers of types stands for the rule on types, for every kind. Assumes nothing.
 use Prim.Native.Nat.{ℕ, zero, suc, _+_, _-_, _≤_, _<_}
-use mathlib.Core.Path.{_≡_, refl, sym, ap, _∙_}
+use mathlib.Core.Path.{_≡_, refl, ap, _∙_}
 use mathlib.Core.Bool.{Bool, true, false, _&&_}
-use mathlib.Core.List.{List}
 use native.Mathlib.Omega.{arith}
 use lib.ListN.{length, getD}
 use lib.Dec.{leb, ltb, eqb}
 use borrow.Author.Tests.{ltb-true, leb-true, ne-eqb}
 use Rattle.lambdamix.specs.Script.{Script, FunctionType, Node, rows, rowOf, blankRow, nodeAt, nodeCount}
-use Rattle.lambdamix.specs.Types.{Ty, S, D, _⇒_, typeOf, typeCount}
-use Rattle.lambdamix.specs.Typing.{Context, typeAt}
+use Rattle.lambdamix.specs.Types.{Ty, S, typeOf, typeCount}
+use Rattle.lambdamix.specs.Typing.{Context}
 use Rattle.lambdamix.specs.Checker.{Refusal, Checked, typed, faulty, lowerBy, lower, both, Verdict, own, rule, rootRule, provided, liftRule, applyRule, fixRule, ifRule, opRule, abstrBy, abstrRule}
 use Rattle.lambdamix.proofs.Tests.{and-both}
 use Rattle.script.specs.declared.Counts.{Counts}

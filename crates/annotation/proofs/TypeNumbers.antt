@@ -1,8 +1,8 @@
 -- Types by their numbers, in a script whose type records fit: what a number stands for, that equal types have equal numbers,
 -- which function types are listed, and what the rules on types say of numbers. Assumes nothing.
 use Prim.Native.Nat.{ℕ, zero, suc, _+_, _-_, _≤_, _<_}
-use mathlib.Core.Path.{_≡_, refl, sym, ap, _∙_}
-use mathlib.Core.Bool.{Bool, true, false, not, _&&_, _||_}
+use mathlib.Core.Path.{_≡_, refl, sym, _∙_}
+use mathlib.Core.Bool.{Bool, true, false, _&&_}
 use mathlib.Core.Logic.{⊎-elim, _⊎_, inl, inr}
 use mathlib.Core.Option.{Option, none, some}
 use native.Mathlib.Omega.{arith}
@@ -11,9 +11,8 @@ use lib.ListN.{length, getD}
 use lib.Dec.{leb, ltb, eqb}
 use borrow.Author.Tests.{ltb-true, eq-eqb, ne-eqb, eqb-true, le-leb, lt-leb, leb-true, leb-false, not-true}
 use Rattle.lambdamix.specs.Script.{Script, FunctionType}
-use Rattle.lambdamix.specs.Falling.{falling, fallingBy, below}
+use Rattle.lambdamix.specs.Falling.{falling, fallingBy}
 use Rattle.lambdamix.specs.Types.{Ty, S, D, _⇒_, sameType, blankType, typeBy, typeStep, typeOf, typeCount, someType, listed}
-use Rattle.lambdamix.specs.Structure.{firstFailing}
 use Rattle.lambdamix.specs.Checker.{provided, liftRule, applyRule, fixRule, ifRule, opRule}
 use Rattle.lambdamix.proofs.Falling.{falling-step, below-at}
 use Rattle.lambdamix.proofs.Tests.{and-both, and-intro, or-cases, or-left, or-right, holds-or-fails}

@@ -3,14 +3,13 @@ use Prim.Native.Nat.{ℕ}
 use mathlib.Core.Path.{_≡_, refl, sym, ap, _∙_, subst}
 use mathlib.Core.List.{List, [], _∷_}
 use lib.ListN.{getD}
-use lib.Dec.{eqb}
 use borrow.Author.Tests.{ne-eqb}
 use denote.Enum.Declared as Declared
-use types.Run.{OneOf, miss}
+use types.Run.{OneOf}
 use Rattle.lambdamix.proofs.Use as Tags
 use Rattle.lambdamix.specs.declared.Use.{Use}
 use Rattle.lambdamix.specs.declared.Use.the-variants.{Nothing, Name, Binder, Child, ParameterType, Operation}
-use Rattle.annotation.specs.Fields.{pick, useNumber, whenUse}
+use Rattle.annotation.specs.Fields.{useNumber, whenUse}
 
 allUses : List Use
 allUses = Nothing ∷ Name ∷ Binder ∷ Child ∷ ParameterType ∷ Operation ∷ []

@@ -1,9 +1,9 @@
 -- Demand 3's last part, through the bytes: the written script of a finished run of an accepted file, where 26 does not hold,
 -- is accepted again, by ALL of refusals 1 to 11. Assumes nothing.
-use Prim.Native.Nat.{ℕ, zero, suc, _≤_, _<_}
-use mathlib.Core.Path.{_≡_, refl, sym, subst, subst⁻¹, _∙_}
-use mathlib.Core.Bool.{Bool, true, false, _&&_}
-use mathlib.Core.List.{List, [], _∷_}
+use Prim.Native.Nat.{ℕ, _≤_}
+use mathlib.Core.Path.{_≡_, sym, subst⁻¹, _∙_}
+use mathlib.Core.Bool.{true, false, _&&_}
+use mathlib.Core.List.{List, []}
 use mathlib.Core.Option.{none}
 use mathlib.Core.Logic.{⊎-elim}
 use native.Mathlib.Omega.{arith}
@@ -16,7 +16,7 @@ use Rattle.lambdamix.specs.Limits.{maxTypes, maxInputs, maxNodes, maxFuel}
 use Rattle.lambdamix.specs.Script.{Script, Node, blankNode, nodeAt, inputCount}
 use Rattle.lambdamix.specs.Checker.{annotationRefusal}
 use Rattle.lambdamix.specs.Structure.{firstFailing, orElse, structureRefusal}
-use Rattle.lambdamix.specs.Code.{Code, fits, nodesFrom, written}
+use Rattle.lambdamix.specs.Code.{Code, fits, written}
 use Rattle.lambdamix.specs.Specializing.{specialized, finished}
 use Rattle.lambdamix.specs.Demand.{Accepted}
 use Rattle.lambdamix.proofs.Tests.{and-both, holds-or-fails}
@@ -27,12 +27,12 @@ use Rattle.lambdamix.proofs.Bounds.{names-fit}
 use Rattle.lambdamix.proofs.WellAnnotated.{finished-run, finished-code-scoped}
 use Rattle.lambdamix.proofs.DemandThree.{demand-three}
 use Rattle.script.specs.File.{scriptIn, fileBytes}
-use Rattle.script.specs.Refusals.{inputFits, countsRight, contentOf, contentRefusal, scriptRefusal, fileRefusal, refusedUnless}
-use Rattle.file.specs.Encodable.{AllBytes, Encodable, EncodableNode}
+use Rattle.script.specs.Refusals.{inputFits, countsRight, contentOf, contentRefusal, scriptRefusal, fileRefusal}
+use Rattle.file.specs.Encodable.{AllBytes, Encodable}
 use Rattle.file.specs.AcceptedFile.{AcceptedFile}
 use Rattle.script.proofs.RefusalLaws.{neither, not-refused, pass-over, no-record, passes}
 use Rattle.file.proofs.FileLaws.{read-written, file-refusal, read-fits, written-read}
-use Rattle.file.proofs.WrittenContent.{Good, sizes-right, each-good, written-counts, written-content}
+use Rattle.file.proofs.WrittenContent.{sizes-right, each-good, written-counts, written-content}
 
 inputs-few : (t i n : ℕ) → countsRight t i n ≡ true → leb i maxInputs ≡ true
 unfolding countsRight

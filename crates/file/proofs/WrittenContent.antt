@@ -1,30 +1,29 @@
 -- The nodes of a written script are good records: refusals 3, 4 and 5 do not hold of it. Assumes nothing.
 use Prim.Native.Nat.{ℕ, zero, suc, _+_, _≤_, _<_}
 use mathlib.Core.Path.{_≡_, refl, sym, subst}
-use mathlib.Core.Bool.{Bool, true, false, _&&_}
+use mathlib.Core.Bool.{true}
 use mathlib.Core.List.{List, [], _∷_, _++_}
 use mathlib.Core.Option.{none}
 use native.Mathlib.Omega.{arith}
 use native.Mathlib.Nat.{le-refl, add-zero, zero-add}
-use lib.IntN.{ℤ, pos}
-use lib.ListN.{length, getD, length-append}
-use lib.Dec.{leb, ltb, eqb}
+use lib.IntN.{pos}
+use lib.ListN.{length, getD}
+use lib.Dec.{leb, ltb}
 use borrow.Author.Tests.{lt-ltb, le-leb, ltb-true, leb-true}
 use lib.Signed.{mag}
 use Rattle.lambdamix.specs.declared.Operator.{Operator}
 use Rattle.lambdamix.specs.declared.Operator.the-variants.{Add, Subtract, Multiply, Divide, Equal, Less}
-use Rattle.lambdamix.specs.Arithmetic.{eqZ}
 use Rattle.lambdamix.specs.Limits.{maxTypes, maxInputs, maxNodes, maxHeight}
 use Rattle.lambdamix.specs.Structure.{firstFailing, orElse}
 use Rattle.lambdamix.specs.Script.{Script, Node, rows, rowOf, fields, inputCount, nodeCount, nodeAt, blankNode}
 use Rattle.lambdamix.specs.Term.{Former, applying, fixing, choosing, operating, arity}
-use Rattle.lambdamix.specs.Code.{Code, lit, ref, fn, form, Codes, nilC, consC, node, formNode, operatorNumber, top, after, tops, nodesFrom, allNodesFrom, written, size, codeHeight, fits}
-use Rattle.lambdamix.proofs.Suits.{Generated, Scoped, ScopedAll, lit-scoped, input-scoped, open-scoped, fn-scoped, form-scoped, nil-scoped, cons-scoped}
+use Rattle.lambdamix.specs.Code.{Code, Codes, nilC, consC, node, formNode, operatorNumber, top, after, tops, nodesFrom, allNodesFrom, written, size, codeHeight, fits}
+use Rattle.lambdamix.proofs.Suits.{Scoped, ScopedAll, lit-scoped, input-scoped, open-scoped, fn-scoped, form-scoped, nil-scoped, cons-scoped}
 use Rattle.lambdamix.proofs.WrittenTree.{top-last, after-last, written-size}
 use Rattle.lambdamix.proofs.Structure.{none-fails}
 use Rattle.lambdamix.proofs.Tests.{and-both}
-use Rattle.lambdamix.proofs.Range.{Fits, CodeFits, CodesFit}
-use Rattle.file.specs.Encodable.{Encodable, EncodableNode}
+use Rattle.lambdamix.proofs.Range.{CodeFits, CodesFit}
+use Rattle.file.specs.Encodable.{EncodableNode}
 use Rattle.script.specs.Refusals.{fieldRight, fieldsRight, nodeFits, inputFits, countsRight, contentOf, contentRefusal, refusedRecord}
 
 -- a node is a good record at the number j, given the counts of types and inputs, and fits the widths of the file

@@ -14,7 +14,7 @@ ghost use Prim.Native.Nat.{_<_};
 ghost use mathlib.Core.List.{[], _∷_};
 ghost use lib.ListN.{getD};
 ghost use Rattle.lambdamix.specs.Structure.{firstFailing};
-ghost use Rattle.script.specs.Refusals.{countsRight, otherPair, typeFits, inputFits, fieldRight, fieldsRight, nodeFits};
+ghost use Rattle.script.specs.Refusals.{otherPair, typeFits, inputFits, fieldRight, fieldsRight, nodeFits};
 ghost use Rattle.script.specs.Replies.{foundAt, refusalOf};
 ghost use Rattle.script.specs.Kinds.{usesTable};
 ghost use Rattle.script.specs.Columns.{typesIn, inputsIn, nodesIn, nodeOf, tablesOf, contentIn};

@@ -1,6 +1,6 @@
 -- The listing of a script past refusals 1 to 8, as bytes: paper 01, "Listing and program". Marks (annotations) and lifts are
 -- dropped. Assumes nothing.
-use Prim.Native.Nat.{ℕ, zero, suc}
+use Prim.Native.Nat.{ℕ}
 use mathlib.Core.Bool.{Bool, true, false}
 use mathlib.Core.List.{List, [], _∷_, _++_}
 use lib.Dec.{ltb}

@@ -1,6 +1,6 @@
 -- Scripts as tables: paper 01, "Script file". A script is its listed types, its inputs and its nodes; which fields a kind
 -- uses is one table of thirteen rows. Bytes are the matter of the crate `script`. Assumes nothing.
-use Prim.Native.Nat.{ℕ, _+_, _-_}
+use Prim.Native.Nat.{ℕ, _-_}
 use mathlib.Core.List.{List, [], _∷_}
 use lib.IntN.{ℤ, pos}
 use lib.ListN.{length, getD}

@@ -2,7 +2,6 @@
 -- script's numbers stand for, and which types a script lists. Assumes nothing.
 use Prim.Native.Nat.{ℕ, zero, suc, _+_, _-_}
 use mathlib.Core.Bool.{Bool, true, false, _&&_, _||_}
-use mathlib.Core.List.{List, []}
 use lib.ListN.{length, getD}
 use lib.Dec.{eqb}
 use Rattle.lambdamix.specs.Falling.{falling}

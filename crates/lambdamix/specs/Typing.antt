@@ -1,7 +1,7 @@
 -- The type rules of source document 001, Figure 4, with the figure's names: `s ∣ Γ ⊢ e ∶ t` says that the term e has the
 -- type t where Γ gives its free names their types. The script s gives the listed types; (Abstr) asks that a function's type
 -- is listed, as paper 01, "Marks", does. (Dyn) is Apply-dyn, Fix-dyn, If-dyn and Op-dyn in one. Assumes nothing.
-use Prim.Native.Nat.{ℕ, zero, suc}
+use Prim.Native.Nat.{ℕ, suc}
 use mathlib.Core.Path.{_≡_}
 use mathlib.Core.Bool.{Bool, true, false}
 use mathlib.Core.List.{List, [], _∷_}

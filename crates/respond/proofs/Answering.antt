@@ -1,10 +1,10 @@
 -- A script that is held is answered as the calculus says: by what the maker told, or by its file, which is read as it was written.
 -- Assumes nothing.
-use Prim.Native.Nat.{ℕ, _+_, _*_, _≤_}
-use mathlib.Core.Path.{_≡_, refl, sym, ap, _∙_}
-use mathlib.Core.Bool.{Bool, true, false}
-use mathlib.Core.List.{List, [], _∷_, _++_, append-assoc}
-use mathlib.Core.Option.{Option, none, some}
+use Prim.Native.Nat.{ℕ, _+_, _≤_}
+use mathlib.Core.Path.{_≡_, sym, ap, _∙_}
+use mathlib.Core.Bool.{true, false}
+use mathlib.Core.List.{List, _++_, append-assoc}
+use mathlib.Core.Option.{Option, none}
 use native.Mathlib.Omega.{arith}
 use lib.IntN.{ℤ}
 use lib.ListN.{length, take}
@@ -15,7 +15,7 @@ use Rattle.lambdamix.specs.Limits.{maxNodes, maxHeight, maxFuel}
 use Rattle.lambdamix.specs.Script.{Script, nodeCount}
 use Rattle.lambdamix.specs.Checker.{Refusal, annotationRefusal}
 use Rattle.lambdamix.specs.Structure.{orElse}
-use Rattle.lambdamix.specs.Code.{Code, size, codeHeight, fits, nodesFrom, written}
+use Rattle.lambdamix.specs.Code.{Code, size, codeHeight, fits, written}
 use Rattle.lambdamix.specs.Specializing as Calculus
 use Rattle.lambdamix.specs.Specializing.{callRefusal, unlessRefused, answerReply, madeBy, make, specialized, finished}
 use Rattle.lambdamix.specs.Text.{ascii, digits}
@@ -24,10 +24,9 @@ use Rattle.lambdamix.proofs.Tests.{and-both}
 use Rattle.lambdamix.proofs.WrittenTree.{written-size}
 use Rattle.script.specs.declared.Counts.{Counts}
 use Rattle.script.specs.declared.Refusal as Told
-use Rattle.script.specs.File.{fileBytes, fileLength, nodeOffset, headInputs, scriptIn}
+use Rattle.script.specs.File.{fileBytes, fileLength, nodeOffset, scriptIn}
 use Rattle.script.specs.Refusals.{fileRefusal}
 use Rattle.file.specs.Heads.{headCounts}
-use Rattle.file.specs.Encodable.{AllBytes}
 use Rattle.script.specs.Tables.{Tables, over}
 use Rattle.script.proofs.RefusalLaws.{neither}
 use Rattle.file.proofs.FileLaws.{file-length, file-refusal, read-written}
@@ -38,11 +37,11 @@ use Rattle.specializer.specs.declared.Reply.the-variants as Reply
 use Rattle.specializer.specs.Entry.{replied, Makes}
 use Rattle.respond.specs.Response.{programFuel, wholeSettings, settingsReply, unmadeText, replyText}
 use Rattle.respond.specs.Given.{givenSettings}
-use Rattle.respond.specs.Answers.{settingsRefusal, laterRefusal}
-use Rattle.respond.specs.Stages.{Prints, countsText, PrintsMade, Held, Answered, AnswersScript}
+use Rattle.respond.specs.Answers.{laterRefusal}
+use Rattle.respond.specs.Stages.{Prints, countsText, PrintsMade, Held, AnswersScript}
 use Rattle.respond.proofs.Files.{script-counts, script-passes, few-inputs}
 use Rattle.respond.proofs.GivenSettings.{given-refusal, given-reply, settings-fit}
-use Rattle.respond.proofs.Making.{before-is, making-is, MadeCode, made-told, unmade-told}
+use Rattle.respond.proofs.Making.{before-is, making-is, made-told, unmade-told}
 use Rattle.respond.proofs.ValuesFit.{values-fit}
 
 -- ---- the file of code that fits

@@ -1,21 +1,20 @@
 -- A file that passes 1 to 8 and the tables that hold it. Assumes nothing.
 use Prim.Native.Nat.{ℕ, _≤_}
-use mathlib.Core.Path.{_≡_, refl, sym, ap, _∙_}
-use mathlib.Core.Bool.{Bool, true, false, _&&_}
+use mathlib.Core.Path.{_≡_, ap, _∙_}
+use mathlib.Core.Bool.{true}
 use mathlib.Core.List.{List}
 use mathlib.Core.Option.{none}
 use native.Mathlib.Omega.{arith}
 use lib.ListN.{length}
 use lib.Dec.{leb}
 use borrow.Author.Tests.{le-leb, leb-true}
-use Rattle.lambdamix.specs.Script.{Script}
 use Rattle.lambdamix.specs.Structure.{orElse, structureRefusal}
 use Rattle.lambdamix.proofs.Tests.{and-both, and-intro}
 use Rattle.script.specs.declared.Counts.{Counts}
 use Rattle.script.specs.File.{headTypes, headInputs, headNodes, scriptIn}
 use Rattle.script.specs.Refusals.{refusedUnless, countsRight, contentRefusal, scriptRefusal, bodyRefusal, fileRefusal}
 use Rattle.file.specs.Heads.{headCounts}
-use Rattle.script.specs.Tables.{Tables, tablesScript, tablesRefusal, longEnough}
+use Rattle.script.specs.Tables.{Tables, tablesRefusal, longEnough}
 use Rattle.script.proofs.RefusalLaws.{neither, no-earlier, not-refused, pass-over}
 use Rattle.file.proofs.RecordLaws.{numbered-length}
 use Rattle.file.proofs.ContentLaws.{in-limits}

@@ -1,7 +1,7 @@
 -- The maker with the settings as it is given them replies as with the settings that follow the script; where these are not whole
 -- records, or more than 16, it is 12 in its place. Assumes nothing.
 use Prim.Native.Nat.{ℕ, _+_, _*_, _/_, _≤_, _<_}
-use mathlib.Core.Path.{_≡_, refl, sym, ap, _∙_}
+use mathlib.Core.Path.{_≡_, refl, sym, _∙_}
 use mathlib.Core.Bool.{Bool, true, false, not, _&&_}
 use mathlib.Core.List.{List, [], _∷_}
 use mathlib.Core.Option.{Option, none, some}
@@ -14,7 +14,7 @@ use borrow.Author.Tests.{ne-eqb, ltb-true, ltb-false}
 use Rattle.lambdamix.specs.Script.{Script}
 use Rattle.lambdamix.specs.Checker.{Refusal, annotationRefusal}
 use Rattle.lambdamix.specs.Structure.{orElse, oneIf}
-use Rattle.lambdamix.specs.Specializing.{Reply, unmade, staticInputs, refusedBy, callRefusal, unlessRefused, answerReply, specialized, make}
+use Rattle.lambdamix.specs.Specializing.{unmade, staticInputs, refusedBy, callRefusal, unlessRefused, answerReply, specialized, make}
 use Rattle.lambdamix.proofs.Tests.{holds-or-fails}
 use Rattle.lambdamix.proofs.Range.{Fits}
 use Rattle.script.specs.File.{numbered}

@@ -1,11 +1,10 @@
 -- Tables that the reader filled hold the file, and its listing is printed behind the counts. Assumes nothing.
 use Prim.Native.Nat.{ℕ, _+_, _-_, _≤_, min}
 use mathlib.Core.Path.{_≡_, refl, sym, ap, _∙_}
-use mathlib.Core.Bool.{true, _&&_}
-use mathlib.Core.List.{List, [], _∷_, _++_, map}
+use mathlib.Core.Bool.{true}
+use mathlib.Core.List.{List, _++_, map}
 use mathlib.Core.Option.{Option, none, some}
 use native.Mathlib.Omega.{arith}
-use lib.IntN.{ℤ}
 use lib.ListN.{length, take, drop, length-append, length-drop, length-map}
 use lib.Dec.{leb}
 use borrow.Author.Tests.{le-leb, leb-true}
@@ -22,7 +21,7 @@ use Rattle.script.specs.File.{fileLength, headTypes, headInputs, headNodes, scr
 use Rattle.script.specs.Refusals.{refusedUnless, fileRefusal}
 use Rattle.file.specs.Heads.{headCounts}
 use Rattle.file.specs.Encodable.{AllBytes}
-use Rattle.script.specs.Tables.{Tables, tablesScript, over, filled, longEnough, readRefusal, readTables}
+use Rattle.script.specs.Tables.{Tables, over, filled, longEnough, readRefusal, readTables}
 use Rattle.script.specs.Replies.{reading, Reads}
 use Rattle.file.proofs.ContentLaws.{in-limits}
 use Rattle.file.proofs.FillLaws.{file-held}
@@ -30,7 +29,7 @@ use Rattle.file.proofs.FileLaws.{read-fits}
 use Rattle.printer.specs.Answers.{tablesText}
 use Rattle.printer.proofs.Writing.{join}
 use Rattle.printer.proofs.ListingBound.{listing-bytes}
-use Rattle.respond.specs.Stages.{Prints, countsText, CountsPlaced, ListsAt, ListedAt, ListsFile, PrintsMade, Held}
+use Rattle.respond.specs.Stages.{CountsPlaced, ListsAt, ListsFile, PrintsMade, Held}
 use Rattle.respond.proofs.Files.{script-counts, file-passes, script-passes, long-for, held-passes}
 use Rattle.respond.proofs.Splitting.{front-part}
 

@@ -1,12 +1,12 @@
 -- Inputs of any length are answered by their first 65,536 bytes: a right head's script ends before them, and what follows it is
 -- then too much for settings; a wrong head is told alone. Assumes nothing.
-use Prim.Native.Nat.{ℕ, _+_, _-_, _*_, _/_, _≤_, _<_}
-use mathlib.Core.Path.{_≡_, refl, sym, ap, ap₂, _∙_}
+use Prim.Native.Nat.{ℕ, _+_, _-_, _/_, _≤_, _<_}
+use mathlib.Core.Path.{_≡_, refl, sym, ap, _∙_}
 use mathlib.Core.Bool.{Bool, true, false, _&&_, true≢false}
 use mathlib.Core.List.{List}
 use mathlib.Core.Option.{Option, none, some}
 use native.Mathlib.Omega.{arith}
-use lib.ListN.{length, take, drop, length-take, length-drop}
+use lib.ListN.{length, take, length-drop}
 use lib.Seq.{take-all, take-take, getD-take, length-take-le}
 use lib.Dec.{leb, ltb}
 use borrow.Author.Tests.{le-leb}
@@ -18,7 +18,7 @@ use Rattle.script.specs.Bytes.{byteAt, word16}
 use Rattle.script.specs.File.{fileLength, nodeOffset, headTypes, headInputs, headNodes, scriptIn}
 use Rattle.script.specs.Refusals.{refusedUnless, marked, headMarked, countsRight, fileRefusal}
 use Rattle.file.proofs.ContentLaws.{in-limits}
-use Rattle.respond.specs.Response.{headRight, scriptLengthBy, scriptLength, scriptPart, settingsPart, wholeSettings, settingsReply, inputReply, replyTo, unmadeText, replyText, response}
+use Rattle.respond.specs.Response.{headRight, scriptLengthBy, scriptLength, scriptPart, settingsPart, inputReply, replyTo, unmadeText, replyText, response}
 use Rattle.respond.proofs.Files.{few-inputs}
 use Rattle.respond.proofs.GivenSettings.{many-settings}
 

@@ -1,5 +1,5 @@
 -- What the maker's call gives, in the terms of the calculus: code that was written, or number and place. Assumes nothing.
-use Prim.Native.Nat.{ℕ, _≤_}
+use Prim.Native.Nat.{ℕ}
 use mathlib.Core.Path.{_≡_, refl, sym, ap, _∙_}
 use mathlib.Core.Bool.{Bool, true, false}
 use mathlib.Core.List.{List}
@@ -12,14 +12,13 @@ use Rattle.lambdamix.specs.Script.{Script}
 use Rattle.lambdamix.specs.Checker.{Refusal, annotationRefusal}
 use Rattle.lambdamix.specs.Structure.{orElse}
 use Rattle.lambdamix.specs.Code.{Code, size, fits, written}
-use Rattle.lambdamix.specs.Value.{stopNumber, stopPlace}
 use Rattle.lambdamix.specs.Specializing as Calculus
 use Rattle.lambdamix.specs.Specializing.{Answer, finished, halted, specialized, callRefusal, unlessRefused, madeBy, answerReply}
 use Rattle.script.specs.declared.Counts.{Counts}
 use Rattle.script.specs.File.{fileBytes, scriptIn}
 use Rattle.script.specs.Refusals.{refusedUnless}
 use Rattle.script.specs.Tables.{Tables, over}
-use Rattle.specializer.specs.Making.{Stores, storesSuffice, annotationBy, refusalBefore, Reply, made, unmade, Made, leaves, numbered, writtenBy, afterRun, madeUnless, making}
+use Rattle.specializer.specs.Making.{Stores, storesSuffice, annotationBy, refusalBefore, Reply, made, unmade, Made, writtenBy, afterRun, madeUnless, making}
 use Rattle.respond.specs.Response.{programFuel}
 use Rattle.respond.specs.Stages.{Held}
 use Rattle.respond.proofs.Files.{held-passes}

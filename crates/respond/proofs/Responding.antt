@@ -2,12 +2,12 @@
 use Prim.Native.Nat.{ℕ, _+_, _-_, _≤_, _<_, min}
 use mathlib.Core.Path.{_≡_, refl, sym, ap, _∙_}
 use mathlib.Core.Bool.{Bool, true, false, _&&_, true≢false}
-use mathlib.Core.List.{List, [], _∷_, _++_}
-use mathlib.Core.Option.{none, some}
+use mathlib.Core.List.{List}
+use mathlib.Core.Option.{some}
 use mathlib.Core.Logic.{⊎-elim}
 use native.Mathlib.Omega.{arith}
 use lib.IntN.{ℤ}
-use lib.ListN.{length, getD, take, drop, length-take, List·getD-eq-default}
+use lib.ListN.{length, take, drop, length-take, List·getD-eq-default}
 use lib.Seq.{getD-take, getD-drop}
 use lib.Dec.{leb, ltb}
 use borrow.Author.Tests.{leb-true, ltb-true, ltb-false}
@@ -26,13 +26,12 @@ use Rattle.script.specs.Tables.{Tables, longEnough, over}
 use Rattle.script.specs.Replies.{Reads}
 use Rattle.printer.specs.Places.{most}
 use Rattle.specializer.specs.Making.{Stores, storesSuffice, storesAfter}
-use Rattle.respond.specs.declared.Response.{Response}
 use Rattle.respond.specs.declared.Response.the-variants.{Printed, TooShort}
 use Rattle.respond.specs.Response.{programFuel, scriptLength, scriptPart, settingsPart, inputReply, replyTo, unmadeText, replyText, response}
 use Rattle.respond.specs.Answers.{textRoom, roomy, responded, respondedOutput, runRefusal, respondedStores, Responds}
-use Rattle.respond.specs.Stages.{Suffices, Prints, Held, Answered, AnswersScript, Answers}
+use Rattle.respond.specs.Stages.{Suffices, Prints, Held, AnswersScript, Answers}
 use Rattle.respond.proofs.Splitting.{front-part, back-part}
-use Rattle.respond.proofs.Holding.{read-passes, read-refused, held}
+use Rattle.respond.proofs.Holding.{read-refused, held}
 
 -- ---- parts of bytes are bytes
 

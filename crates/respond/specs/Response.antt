@@ -1,9 +1,9 @@
 -- What `benchmake` prints for any standard input: paper 01, "Listing and program". "Program `benchmake` reads standard input: a
 -- script file, then a record `SV` plus a 4-byte signed value per setting. Bytes after the script that aren't whole `SV` records
 -- give 12." Assumes nothing.
-use Prim.Native.Nat.{ℕ, zero, suc, _+_, _*_, _/_, _%_}
+use Prim.Native.Nat.{ℕ, _+_, _*_, _/_, _%_}
 use mathlib.Core.Bool.{Bool, true, false, _&&_}
-use mathlib.Core.List.{List, [], _∷_, _++_}
+use mathlib.Core.List.{List, _++_}
 use mathlib.Core.Option.{Option, none, some}
 use lib.IntN.{ℤ}
 use lib.ListN.{length, take, drop}

@@ -7,7 +7,6 @@ use printer::parts::least;
 use printer::parts::part_at;
 use printer::parts::text_at;
 use script::Counts;
-ghost use mathlib.Core.Path.{_≡_};
 ghost use lib.Dec.{ltb};
 ghost use Rattle.script.specs.Columns.{tablesOf};
 ghost use Rattle.printer.specs.Places.{Placed};

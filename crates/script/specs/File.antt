@@ -3,7 +3,7 @@
 use Prim.Native.Nat.{ℕ, zero, suc, _+_, _*_}
 use mathlib.Core.List.{List, [], _∷_, _++_}
 use lib.ListN.{length}
-use Rattle.lambdamix.specs.Script.{Script, FunctionType, Node, nodeCount, inputCount}
+use Rattle.lambdamix.specs.Script.{Script, FunctionType, Node}
 use Rattle.lambdamix.specs.Text.{ascii}
 use Rattle.script.specs.Bytes.{byteAt, word16, word32, signed32, bits32, bytes16, bytes32}
 

@@ -1,18 +1,18 @@
 -- Refusals 1 to 8 of paper 01, "Replies without code", with number and place, as functions of the file's bytes and of a script.
 -- "Order: 1 (below 8), 2 and 3 for the head, 1 for the total; records in order, mark first; 6, 7, 8". Refusals 6 to 8 are
 -- `structureRefusal` of the crate `lambdamix`. Assumes nothing.
-use Prim.Native.Nat.{ℕ, zero, suc, _+_}
+use Prim.Native.Nat.{ℕ, _+_}
 use mathlib.Core.Bool.{Bool, true, false, not, _&&_, _||_}
 use mathlib.Core.List.{List, [], _∷_}
 use mathlib.Core.Option.{Option, none, some}
-use lib.IntN.{ℤ, pos}
+use lib.IntN.{pos}
 use lib.ListN.{length, getD}
 use lib.Dec.{leb, ltb, eqb}
 use Rattle.lambdamix.specs.declared.Use.{Use}
 use Rattle.lambdamix.specs.declared.Use.the-variants.{Nothing, Name, Binder, Child, ParameterType, Operation}
 use Rattle.lambdamix.specs.Limits.{maxTypes, maxInputs, maxNodes}
-use Rattle.lambdamix.specs.Arithmetic.{operators, eqZ}
-use Rattle.lambdamix.specs.Script.{Script, FunctionType, Node, rows, rowOf, fields, nodeAt}
+use Rattle.lambdamix.specs.Arithmetic.{eqZ}
+use Rattle.lambdamix.specs.Script.{Script, FunctionType, Node, rowOf, fields, nodeAt}
 use Rattle.lambdamix.specs.Types.{blankType}
 use Rattle.lambdamix.specs.Checker.{Refusal}
 use Rattle.lambdamix.specs.Structure.{firstFailing, orElse, structureRefusal}

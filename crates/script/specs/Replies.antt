@@ -1,7 +1,7 @@
 -- The answers of reader, writer and checks as the code gives them, with the paper's number and values for each case.
 -- Assumes nothing.
-use Prim.Native.Nat.{ℕ, zero, suc}
-use mathlib.Core.List.{List, [], _∷_}
+use Prim.Native.Nat.{ℕ}
+use mathlib.Core.List.{List}
 use mathlib.Core.Path.{_≡_}
 use mathlib.Core.Option.{Option, none, some}
 use lib.ListN.{length}
@@ -17,7 +17,7 @@ use Rattle.script.specs.declared.Writing.the-variants as Writing
 use Rattle.script.specs.declared.Found.{Found}
 use Rattle.script.specs.declared.Found.the-variants as Found
 use Rattle.script.specs.File.{headTypes, headInputs, headNodes, fileBytes}
-use Rattle.script.specs.Tables.{Tables, tablesScript, readRefusal, readTables, writeRefusal, writtenOutput, tablesRefusal}
+use Rattle.script.specs.Tables.{Tables, tablesScript, readRefusal, readTables, writeRefusal, writtenOutput}
 
 -- a place, or none
 unfoldable pub foundAt : Found → Option ℕ

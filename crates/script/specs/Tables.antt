@@ -2,9 +2,9 @@
 -- and fills lent tables; tables shorter than the counts give 21, after all its refusals. The writer takes counts and tables;
 -- tables shorter than the counts give 1 [0] before all else, tables whose file the reader would refuse give that refusal, then
 -- a short output 21." Assumes nothing.
-use Prim.Native.Nat.{ℕ, zero, suc}
-use mathlib.Core.Bool.{Bool, true, false, _&&_}
-use mathlib.Core.List.{List, [], _∷_, _++_, map}
+use Prim.Native.Nat.{ℕ}
+use mathlib.Core.Bool.{Bool, _&&_}
+use mathlib.Core.List.{List, _++_, map}
 use mathlib.Core.Option.{Option, none, some}
 use lib.IntN.{ℤ, pos}
 use lib.ListN.{length, getD, drop}

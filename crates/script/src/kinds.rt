@@ -1,8 +1,6 @@
 // The table of tables: per kind, the use of the fields a, b and c.
 use lambdamix::Use;
 ghost use mathlib.Core.Path.{_≡_};
-ghost use mathlib.Core.Bool.{Bool};
-ghost use lib.Dec.{ltb};
 ghost use Rattle.script.specs.Kinds.{useOf};
 
 const USES: [[Use; 3]; 13] = [

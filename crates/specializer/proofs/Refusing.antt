@@ -1,20 +1,17 @@
 -- What is refused before a run, joined from its tests: 12 and 13 from the settings' count and the fuel, 20 from the stores' lengths, and
 -- each check's reply where the one before it passed. Assumes nothing.
-use Prim.Native.Nat.{ℕ, _+_, _*_, _≤_, _<_}
-use mathlib.Core.Path.{_≡_, refl, sym, ap, _∙_}
-use mathlib.Core.Bool.{Bool, true, false, _&&_}
+use Prim.Native.Nat.{ℕ, _≤_, _<_}
+use mathlib.Core.Path.{_≡_}
+use mathlib.Core.Bool.{Bool}
 use mathlib.Core.List.{List}
-use mathlib.Core.Option.{Option, none, some}
+use mathlib.Core.Option.{none, some}
 use lib.IntN.{ℤ}
 use lib.ListN.{length}
-use lib.Dec.{eqb, leb}
 use borrow.Author.Tests.{eq-eqb, ne-eqb, le-leb, lt-leb}
-use Rattle.lambdamix.specs.Limits.{maxInputs, maxFuel}
+use Rattle.lambdamix.specs.Limits.{maxFuel}
 use Rattle.lambdamix.specs.Script.{Script}
-use Rattle.lambdamix.specs.Checker.{Refusal}
 use Rattle.lambdamix.specs.Structure.{orElse}
 use Rattle.lambdamix.specs.Specializing.{callRefusal, refusedBy, staticInputs}
-use Rattle.script.specs.Refusals.{refusedUnless}
 use Rattle.script.specs.Tables.{Tables, tablesScript, tablesRefusal}
 use Rattle.specializer.specs.Making.{Stores, storesSuffice, refusalBefore}
 use Rattle.specializer.specs.Entry.{suffices, laterRefusal}

@@ -1,7 +1,7 @@
 -- `annotation::typing::function` meets its contract. The loop's invariant: no record passed has the pair. The measure is what is
 -- left of the list. Assumes nothing.
 use borrow.Author.Needs.{needs}
-use Prim.Native.Nat.{ℕ, _+_, _-_, _≤_, _<_}
+use Prim.Native.Nat.{ℕ, _-_, _≤_, _<_}
 use mathlib.Core.Path.{_≡_, sym, _∙_}
 use mathlib.Core.Bool.{Bool, true, false, _&&_}
 use native.Mathlib.Omega.{arith}
@@ -10,7 +10,7 @@ use lib.Dec.{eqb}
 use borrow.Author.Count.{below-none, below-more}
 use borrow.Author.Tests.{eqb-true, eq-eqb}
 use Rattle.lambdamix.proofs.Tests.{and-both, and-intro}
-use Rattle.annotation.specs.Answers.{Listing, listed-at, not-listed}
+use Rattle.annotation.specs.Answers.{listed-at, not-listed}
 use Rattle.annotation.proofs.typing.function.Statement.{statement}
 use Rattle.annotation.proofs.typing.function.Tie as tie
 

@@ -1,13 +1,12 @@
 -- `annotation::typing::own` meets its contract: each arm's rule on numbers stands for the rule of the kind's row. Assumes nothing.
 use borrow.Author.Needs.{needs}
 use Prim.Native.Nat.{ℕ, _≤_}
-use mathlib.Core.Path.{_≡_, refl, sym, _∙_}
+use mathlib.Core.Path.{_≡_, sym, _∙_}
 use native.Mathlib.Omega.{arith}
 use Rattle.lambdamix.specs.Script.{rows}
 use Rattle.lambdamix.specs.Checker as Checker
 use Rattle.script.specs.Tables.{rowNode}
 use Rattle.annotation.specs.Fields.{stepRule}
-use Rattle.annotation.specs.Answers.{Ruled}
 use Rattle.annotation.proofs.Contexts.{bound-stands}
 use Rattle.annotation.proofs.Steps.{apply-stands, fix-stands, function-stands, lift-stands, if-stands, op-stands, late-stands, late-rows, by-kind, kind-known, named-type, few-types, constant-stands}
 use Rattle.annotation.proofs.typing.own.Statement.{statement}

@@ -1,12 +1,9 @@
 -- `annotation::typing::parameter` meets its contract: in one arm the use is that of a parameter's type, in the other it is not.
 -- Assumes nothing.
 use borrow.Author.Needs.{needs}
-use mathlib.Core.Path.{sym, ap}
-use mathlib.Core.List.{List, [], _∷_}
+use mathlib.Core.List.{[], _∷_}
 use types.Run.{miss}
-use Prim.Native.Nat.{ℕ}
 use Rattle.lambdamix.specs.declared.Use.the-variants.{ParameterType}
-use Rattle.script.specs.declared.TypeNumber.{TypeNumber}
 use Rattle.annotation.specs.Fields.{parameterBy}
 use Rattle.annotation.proofs.Uses.{other-arm}
 use Rattle.annotation.proofs.typing.parameter.Statement.{statement}

@@ -1,7 +1,6 @@
 -- `annotation::typing::step` meets its contract: a fault goes first, the lowest of several, else the node's own rule. Assumes nothing.
 use borrow.Author.Needs.{needs}
-use mathlib.Core.Path.{_≡_, refl, sym, ap, _∙_}
-use native.Mathlib.Omega.{arith}
+use mathlib.Core.Path.{ap, _∙_}
 use Rattle.annotation.specs.Answers.{lowest}
 use Rattle.annotation.proofs.Steps.{fault-stands, own-stands, number-known}
 use Rattle.annotation.proofs.typing.step.Statement.{statement}

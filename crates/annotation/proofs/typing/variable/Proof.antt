@@ -1,7 +1,7 @@
 -- `annotation::typing::variable` meets its contract. The loop's invariant: what is looked for among all binders is what is looked
 -- for among the first d. The measure is d. Assumes nothing.
 use borrow.Author.Needs.{needs}
-use Prim.Native.Nat.{ℕ, zero, suc, _-_, _<_, _≤_}
+use Prim.Native.Nat.{ℕ, suc, _-_, _<_, _≤_}
 use mathlib.Core.Path.{_≡_, refl, sym, ap, _∙_}
 use mathlib.Core.List.{List}
 use native.Mathlib.Omega.{arith}

@@ -1,11 +1,7 @@
 -- `script::kinds::use_of` meets its contract: the code's table and the definition's have the same rows, and past their ends
 -- nothing is read. Assumes nothing.
 use borrow.Author.Needs.{needs}
-use mathlib.Core.Path.{_≡_, refl, sym}
-use mathlib.Core.List.{[]}
-use native.Mathlib.Omega.{arith}
-use lib.ListN.{getD, List·getD-eq-default}
-use Rattle.lambdamix.specs.declared.Use.the-variants.{Nothing}
+use mathlib.Core.Path.{refl, sym}
 use Rattle.lambdamix.specs.Script.{rows}
 use Rattle.script.specs.Kinds.{useOf, usesTable}
 use Rattle.script.proofs.TableLaws.{past-rows, past-fields}
