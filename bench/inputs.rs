@@ -12,12 +12,7 @@ pub struct Input {
 
 fn input(name: &str, text: &str, settings: &[i32], fuel: u32) -> Input {
     let script = assemble(text).expect("a good text");
-    Input {
-        name: name.to_string(),
-        script,
-        settings: settings.to_vec(),
-        fuel,
-    }
+    Input { name: name.to_string(), script, settings: settings.to_vec(), fuel }
 }
 
 /// A balanced tree of late sums over so many leaves.
@@ -48,17 +43,8 @@ pub fn powers(fuel: u32) -> Input {
 /// Late functions, so many inside each other, around a tree whose leaves name the outermost.
 pub fn environment(depth: usize, leaves: usize) -> Input {
     let open: String = (1..=depth).map(|name| format!("(_lam v{name} ")).collect();
-    let text = format!(
-        "(script (types) (inputs D) {open}{}{})",
-        tree(leaves, "v1"),
-        ")".repeat(depth)
-    );
-    input(
-        &format!("environment {depth} deep, {leaves} lookups"),
-        &text,
-        &[],
-        16000,
-    )
+    let text = format!("(script (types) (inputs D) {open}{}{})", tree(leaves, "v1"), ")".repeat(depth));
+    input(&format!("environment {depth} deep, {leaves} lookups"), &text, &[], 16000)
 }
 
 /// A late tree with so many nodes (odd).
@@ -89,10 +75,7 @@ pub fn typed() -> Input {
         1 => "D".to_string(),
         t => format!("t{t}"),
     };
-    let listed: String = types
-        .iter()
-        .map(|&(p, r)| format!("({} {})", name(p), name(r)))
-        .collect();
+    let listed: String = types.iter().map(|&(p, r)| format!("({} {})", name(p), name(r))).collect();
     // 2 nodes and 2 of height for each level, with an argument of 30 nodes, 8 high; then late fixes up to the limits.
     let levels = 122;
     let argument = |k: usize| {
@@ -120,14 +103,7 @@ pub fn typed() -> Input {
     let text = format!("{}(_app {text} {filler}){}", "(_fix ".repeat(fixes), ")".repeat(fixes));
     let text = format!("(script (types {listed}) (inputs) {text})");
     let made = input("4,096 nodes, height 256, 64 types", &text, &[], 16000);
-    assert_eq!(
-        (
-            made.script.nodes.len(),
-            self::height(&made.script),
-            made.script.types.len()
-        ),
-        (4096, 256, 64)
-    );
+    assert_eq!((made.script.nodes.len(), self::height(&made.script), made.script.types.len()), (4096, 256, 64));
     made
 }
 

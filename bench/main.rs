@@ -52,13 +52,7 @@ impl Case {
         let tuned = tuned::Script {
             types: input.script.types.clone(),
             inputs: input.script.inputs.clone(),
-            nodes: nodes
-                .map(|n| tuned::Node {
-                    kind: n.kind,
-                    fields: n.fields,
-                    value: n.value,
-                })
-                .collect(),
+            nodes: nodes.map(|n| tuned::Node { kind: n.kind, fields: n.fields, value: n.value }).collect(),
         };
         Case {
             stores: scriptmaker::Stores::new(input.fuel),
@@ -74,29 +68,15 @@ impl Case {
     }
 
     fn make_library(&mut self) -> Reply {
-        match self
-            .library
-            .make(&self.input.settings, self.input.fuel, &mut self.stores, &mut self.out)
-        {
-            Ok(made) => Reply {
-                number: 0,
-                place: 0,
-                steps: made.steps,
-                nodes: made.nodes,
-            },
-            Err(f) => Reply {
-                number: f.number,
-                place: f.place,
-                steps: f.steps,
-                nodes: 0,
-            },
+        match self.library.make(&self.input.settings, self.input.fuel, &mut self.stores, &mut self.out) {
+            Ok(made) => Reply { number: 0, place: 0, steps: made.steps, nodes: made.nodes },
+            Err(f) => Reply { number: f.number, place: f.place, steps: f.steps, nodes: 0 },
         }
     }
 
     fn make_tuned(&mut self) -> Reply {
         let (fuel, scratch, stores) = (self.input.fuel, &mut self.scratch, &mut self.tuned_stores);
-        self.tuned
-            .make(&self.input.settings, fuel, scratch, stores, &mut self.out)
+        self.tuned.make(&self.input.settings, fuel, scratch, stores, &mut self.out)
     }
 
     fn make_reference(&mut self) -> Result<specializer::Made, script::Reply> {
@@ -108,15 +88,11 @@ impl Case {
     }
 
     fn check_tuned(&mut self) -> (u8, usize) {
-        self.tuned
-            .check(&mut self.scratch)
-            .map_or_else(|f| (f.number, f.place), |()| (0, 0))
+        self.tuned.check(&mut self.scratch).map_or_else(|f| (f.number, f.place), |()| (0, 0))
     }
 
     fn check_by_passes(&mut self) -> (u8, usize) {
-        self.tuned
-            .check_by_passes(&mut self.scratch)
-            .map_or_else(|f| (f.number, f.place), |()| (0, 0))
+        self.tuned.check_by_passes(&mut self.scratch).map_or_else(|f| (f.number, f.place), |()| (0, 0))
     }
 
     fn check_reference(&self) -> (u8, usize) {
@@ -134,9 +110,7 @@ impl Case {
     }
 
     fn list_tuned(&mut self) -> usize {
-        self.tuned
-            .list(&mut self.scratch, &mut self.text)
-            .expect("room for any listing")
+        self.tuned.list(&mut self.scratch, &mut self.text).expect("room for any listing")
     }
 
     /// All three reply alike, and leave the same file and the same listing.
@@ -163,19 +137,9 @@ impl Case {
             Ok(made) => {
                 let bytes = script::encode(&made.script);
                 assert_eq!(bytes, file[..bytes.len()], "{}", self.input.name);
-                Reply {
-                    number: 0,
-                    place: 0,
-                    steps: made.steps as u16,
-                    nodes: made.script.nodes.len() as u16,
-                }
+                Reply { number: 0, place: 0, steps: made.steps as u16, nodes: made.script.nodes.len() as u16 }
             }
-            Err(f) => Reply {
-                number: f.number,
-                place: f.place,
-                steps: f.steps as u16,
-                nodes: 0,
-            },
+            Err(f) => Reply { number: f.number, place: f.place, steps: f.steps as u16, nodes: 0 },
         };
         assert_eq!(library, reference, "{}", self.input.name);
         library
@@ -210,10 +174,7 @@ unsafe extern "C" {
 /// The processor's time of this thread, in seconds: what other programs take does not count.
 fn now() -> f64 {
     const CLOCK_THREAD_CPUTIME_ID: i32 = 3;
-    let mut time = Timespec {
-        seconds: 0,
-        nanoseconds: 0,
-    };
+    let mut time = Timespec { seconds: 0, nanoseconds: 0 };
     // SAFETY: the pointer is good for the call.
     unsafe { clock_gettime(CLOCK_THREAD_CPUTIME_ID, &mut time) };
     time.seconds as f64 + time.nanoseconds as f64 * 1e-9
@@ -241,10 +202,8 @@ fn median(mut xs: Vec<f64>) -> (f64, f64, f64) {
 
 /// For each job the seconds of a call in each repeat; the jobs take turns.
 fn measure(case: &mut Case, jobs: &[Job]) -> Vec<Vec<f64>> {
-    let calls: Vec<usize> = jobs
-        .iter()
-        .map(|&(_, job)| (BATCH / time(case, job, 3).max(1e-9)).ceil() as usize)
-        .collect();
+    let calls: Vec<usize> =
+        jobs.iter().map(|&(_, job)| (BATCH / time(case, job, 3).max(1e-9)).ceil() as usize).collect();
     let mut taken = vec![vec![]; jobs.len()];
     for repeat in 0..REPEATS {
         for turn in 0..jobs.len() {
@@ -255,17 +214,17 @@ fn measure(case: &mut Case, jobs: &[Job]) -> Vec<Vec<f64>> {
     taken
 }
 
-/// A row of the table: the library's time, and its ratio to each other with the spread from the 10th to the 90th percentile.
+/// A row of the table: the library's time, and its ratio to each other with the spread from the 10th to the 90th percentile. Gives
+/// each job's least time, which other programs disturb least.
 fn row(what: &str, case: &mut Case, jobs: &[Job]) -> Vec<f64> {
     let taken = measure(case, jobs);
-    let middle: Vec<f64> = taken.iter().map(|xs| median(xs.clone()).0).collect();
-    print!("{what:<6} {:<42} {:>9.1} µs", case.input.name, middle[0] * 1e6);
+    print!("{what:<6} {:<42} {:>9.1} µs", case.input.name, median(taken[0].clone()).0 * 1e6);
     for (job, xs) in jobs.iter().zip(&taken).skip(1) {
         let (ratio, low, high) = median(taken[0].iter().zip(xs).map(|(l, x)| l / x).collect());
         print!("   {}: {ratio:.2} ({low:.2}..{high:.2})", job.0);
     }
     println!();
-    middle
+    taken.iter().map(|xs| xs.iter().copied().fold(f64::MAX, f64::min)).collect()
 }
 
 fn main() {
@@ -335,30 +294,18 @@ fn all(cases: &mut [Case], plot_to: &str) {
 
 /// The time of each job over inputs of growing size.
 fn grow(what: &str, size: &str, jobs: &[Job], over: Vec<(f64, Input)>) -> plot::Panel {
-    let mut lines: Vec<plot::Line> = jobs
-        .iter()
-        .map(|job| plot::Line {
-            name: job.0.to_string(),
-            points: vec![],
-        })
-        .collect();
+    let mut lines: Vec<plot::Line> =
+        jobs.iter().map(|job| plot::Line { name: job.0.to_string(), points: vec![] }).collect();
     for (x, input) in over {
         let mut case = Case::new(input);
         case.agree();
-        let middle = row(what, &mut case, jobs);
-        for (line, y) in lines.iter_mut().zip(middle) {
+        let least = row(what, &mut case, jobs);
+        for (line, y) in lines.iter_mut().zip(least) {
             line.points.push((x, y * 1e6));
         }
     }
     for line in &lines {
-        println!(
-            "       {what} over {size}, {}: slope {:.2}",
-            line.name,
-            plot::slope(&line.points)
-        );
+        println!("       {what} over {size}, {}: slope {:.2}", line.name, plot::slope(&line.points));
     }
-    plot::Panel {
-        title: format!("{what}: µs over {size}"),
-        lines,
-    }
+    plot::Panel { title: format!("{what}: µs over {size} (least of {REPEATS})"), lines }
 }

@@ -18,12 +18,9 @@ const COLOURS: [&str; 4] = ["#1b6ca8", "#c0392b", "#2e8b57", "#8e6bbf"];
 pub fn slope(points: &[(f64, f64)]) -> f64 {
     let logs: Vec<(f64, f64)> = points.iter().map(|(x, y)| (x.ln(), y.ln())).collect();
     let count = logs.len() as f64;
-    let (sx, sy) = logs
-        .iter()
-        .fold((0.0, 0.0), |s, p| (s.0 + p.0 / count, s.1 + p.1 / count));
-    let (above, below) = logs.iter().fold((0.0, 0.0), |s, p| {
-        (s.0 + (p.0 - sx) * (p.1 - sy), s.1 + (p.0 - sx) * (p.0 - sx))
-    });
+    let (sx, sy) = logs.iter().fold((0.0, 0.0), |s, p| (s.0 + p.0 / count, s.1 + p.1 / count));
+    let (above, below) =
+        logs.iter().fold((0.0, 0.0), |s, p| (s.0 + (p.0 - sx) * (p.1 - sy), s.1 + (p.0 - sx) * (p.0 - sx)));
     above / below
 }
 
@@ -35,11 +32,7 @@ pub fn svg(panels: &[Panel]) -> String {
         HEIGHT + 20.0 + 16.0 * 4.0
     );
     for (index, panel) in panels.iter().enumerate() {
-        s += &format!(
-            "<g transform=\"translate({},0)\">\n{}</g>\n",
-            WIDTH * index as f64,
-            draw(panel)
-        );
+        s += &format!("<g transform=\"translate({},0)\">\n{}</g>\n", WIDTH * index as f64, draw(panel));
     }
     s + "</svg>\n"
 }
@@ -75,11 +68,7 @@ fn draw(panel: &Panel) -> String {
         );
     }
     for (line, colour) in panel.lines.iter().zip(COLOURS) {
-        let path: Vec<String> = line
-            .points
-            .iter()
-            .map(|&(a, b)| format!("{:.1},{:.1}", x(a), y(b)))
-            .collect();
+        let path: Vec<String> = line.points.iter().map(|&(a, b)| format!("{:.1},{:.1}", x(a), y(b))).collect();
         s += &format!(
             "<polyline points=\"{}\" fill=\"none\" stroke=\"{colour}\" stroke-width=\"2\"/>\n",
             path.join(" ")

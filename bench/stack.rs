@@ -66,19 +66,14 @@ const NESTS: [(&str, &str); 20] = [
     ("late if, third", "(_if i0 i0 _)"),
     ("late operation, first", "(_+ _ i0)"),
     ("late operation, second", "(_+ i0 _)"),
-    (
-        "unfolding of fix values",
-        "(app (app (fix (lam v7 t2 (lam v8 S _))) 1) 1)",
-    ),
+    ("unfolding of fix values", "(app (app (fix (lam v7 t2 (lam v8 S _))) 1) 1)"),
     ("application of a branch", "(app (if 1 (lam v9 S _) 1) 1)"),
 ];
 
 /// A run without end, in which so many steps of one sort stand inside each other in each unfolding.
 fn endless(nest: &str) -> Script {
-    let (open, close) = nest
-        .split_once('_')
-        .filter(|(open, _)| !open.is_empty() && !open.ends_with('('))
-        .unwrap_or_else(|| {
+    let (open, close) =
+        nest.split_once('_').filter(|(open, _)| !open.is_empty() && !open.ends_with('(')).unwrap_or_else(|| {
             // the late kinds have a `_` of their own
             let at = nest.rfind('_').expect("a hole");
             (&nest[..at], &nest[at + 1..])
@@ -92,11 +87,7 @@ fn endless(nest: &str) -> Script {
 /// A table of nodes that is one chain, refused 7.
 fn chain(nodes: u16) -> scriptmaker::Script {
     let mut script = scriptmaker::Script::new();
-    script.counts = scriptmaker::Counts {
-        types: 0,
-        inputs: 0,
-        nodes,
-    };
+    script.counts = scriptmaker::Counts { types: 0, inputs: 0, nodes };
     for number in 1..nodes as usize {
         script.kinds[number] = 2;
         script.a[number] = number as u16 - 1;
@@ -128,17 +119,9 @@ pub fn report() {
     let bytes = taken(|| assert_eq!(scriptmaker::Script::new().read(&file).map_err(|f| f.number), Err(7)));
     println!("       reading of a chain of 4,096 nodes          {bytes:>9} (refused 7)");
     most = most.max(bytes);
-    for input in [
-        crate::inputs::typed(),
-        crate::inputs::doubled(250),
-        crate::inputs::power(254, 16000),
-        deep_code(),
-    ] {
+    for input in [crate::inputs::typed(), crate::inputs::doubled(250), crate::inputs::power(254, 16000), deep_code()] {
         let (bytes, (number, steps)) = bare(&input.script, &input.settings);
-        println!(
-            "       {:<42} {bytes:>9} (reply {number} after {steps} steps)",
-            input.name
-        );
+        println!("       {:<42} {bytes:>9} (reply {number} after {steps} steps)", input.name);
         most = most.max(bytes);
     }
     println!("       the most: {most} of 8,388,608");
@@ -151,10 +134,5 @@ fn deep_code() -> crate::inputs::Input {
     let calls = (0..60).fold("i1".to_string(), |inner, _| format!("(app v5 {inner})"));
     let text = format!("(script (types (D D) (t2 D)) (inputs S D) (app (lam v5 t2 {calls}) (lam v4 D {around})))");
     let script = assemble(&text).expect("a good text");
-    crate::inputs::Input {
-        name: "code 13,800 deep".to_string(),
-        script,
-        settings: vec![0],
-        fuel: 16000,
-    }
+    crate::inputs::Input { name: "code 13,800 deep".to_string(), script, settings: vec![0], fuel: 16000 }
 }

@@ -267,11 +267,7 @@ impl Stores {
     /// Stores that suffice for runs with up to this fuel.
     pub fn new(fuel: u32) -> Stores {
         let places = fuel as usize + MAX_INPUTS;
-        Stores {
-            cells: vec![0; places],
-            words: vec![0; places],
-            codes: vec![0; places + fuel as usize],
-        }
+        Stores { cells: vec![0; places], words: vec![0; places], codes: vec![0; places + fuel as usize] }
     }
 }
 
@@ -451,16 +447,7 @@ impl Script {
             )
         };
         let length = 8 + 4 * self.counts.inputs as usize + 13 * reply.nodes as usize;
-        answer(
-            reply.number,
-            reply.place,
-            reply.steps,
-            Made {
-                steps: reply.steps,
-                nodes: reply.nodes,
-                length,
-            },
-        )
+        answer(reply.number, reply.place, reply.steps, Made { steps: reply.steps, nodes: reply.nodes, length })
     }
 }
 

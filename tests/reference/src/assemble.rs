@@ -15,21 +15,11 @@ pub struct Term {
 }
 
 fn term(kind: u8, fields: [u16; 3], children: Vec<Term>) -> Term {
-    Term {
-        node: Node { kind, fields, value: 0 },
-        children,
-    }
+    Term { node: Node { kind, fields, value: 0 }, children }
 }
 
 pub fn constant(value: i32) -> Term {
-    Term {
-        node: Node {
-            kind: CONSTANT,
-            fields: [0; 3],
-            value,
-        },
-        children: vec![],
-    }
+    Term { node: Node { kind: CONSTANT, fields: [0; 3], value }, children: vec![] }
 }
 
 pub fn variable(name: u16) -> Term {
@@ -101,10 +91,7 @@ fn place(term: &Term, nodes: &mut Vec<Node>) -> u16 {
 /// A script from its text.
 pub fn assemble(text: &str) -> Result<Script, String> {
     let tokens = text.replace('(', " ( ").replace(')', " ) ");
-    let mut reader = Reader {
-        tokens: tokens.split_whitespace().collect(),
-        at: 0,
-    };
+    let mut reader = Reader { tokens: tokens.split_whitespace().collect(), at: 0 };
     reader.take("(")?;
     reader.take("script")?;
     let types = reader.types()?;
@@ -112,11 +99,7 @@ pub fn assemble(text: &str) -> Result<Script, String> {
     let body = reader.term()?;
     reader.take(")")?;
     match reader.tokens.get(reader.at) {
-        None => Ok(Script {
-            types,
-            inputs,
-            nodes: lay_out(&body),
-        }),
+        None => Ok(Script { types, inputs, nodes: lay_out(&body) }),
         Some(more) => Err(format!("{more} after the end")),
     }
 }
@@ -214,7 +197,5 @@ impl<'t> Reader<'t> {
 
 /// The number in a word such as `v2`, behind one of the given letters.
 fn numbered(word: &str, letters: &[&str]) -> Option<u16> {
-    letters
-        .iter()
-        .find_map(|letter| word.strip_prefix(letter)?.parse().ok())
+    letters.iter().find_map(|letter| word.strip_prefix(letter)?.parse().ok())
 }

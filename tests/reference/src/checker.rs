@@ -30,7 +30,12 @@ fn function_type(script: &Script, number: u16) -> Option<(u16, u16)> {
 }
 
 /// The type of one node, given those of its children in `types`.
-fn type_of(script: &Script, parents: &[Option<usize>], types: &[u16], number: usize) -> Option<u16> {
+fn type_of(
+    script: &Script,
+    parents: &[Option<usize>],
+    types: &[u16],
+    number: usize,
+) -> Option<u16> {
     let node = &script.nodes[number];
     let [a, b, c] = node.fields;
     let child = |field: u16| types[field as usize];

@@ -80,11 +80,7 @@ pub struct Reply {
 
 impl Reply {
     pub fn new(number: u8, place: usize) -> Reply {
-        Reply {
-            number,
-            place,
-            steps: 0,
-        }
+        Reply { number, place, steps: 0 }
     }
 }
 
@@ -116,7 +112,10 @@ impl Counts {
     }
 
     fn within_limits(&self) -> bool {
-        self.types <= MAX_TYPES && self.inputs <= MAX_INPUTS && 1 <= self.nodes && self.nodes <= MAX_NODES
+        self.types <= MAX_TYPES
+            && self.inputs <= MAX_INPUTS
+            && 1 <= self.nodes
+            && self.nodes <= MAX_NODES
     }
 }
 
@@ -135,10 +134,7 @@ impl Node {
     /// The numbers of the children, in field order.
     pub fn children(&self) -> Vec<usize> {
         let uses = self.uses();
-        (0..3)
-            .filter(|&f| uses[f] == Child)
-            .map(|f| self.fields[f] as usize)
-            .collect()
+        (0..3).filter(|&f| uses[f] == Child).map(|f| self.fields[f] as usize).collect()
     }
 
     pub fn is_binder(&self) -> bool {
@@ -158,11 +154,7 @@ pub struct Script {
 
 impl Script {
     pub fn counts(&self) -> Counts {
-        Counts {
-            types: self.types.len(),
-            inputs: self.inputs.len(),
-            nodes: self.nodes.len(),
-        }
+        Counts { types: self.types.len(), inputs: self.inputs.len(), nodes: self.nodes.len() }
     }
 
     pub fn root(&self) -> usize {
@@ -273,11 +265,7 @@ pub fn read(bytes: &[u8]) -> Result<Script, Reply> {
     if bytes.len() != counts.length() {
         return Err(Reply::new(1, bytes.len()));
     }
-    let mut script = Script {
-        types: vec![],
-        inputs: vec![],
-        nodes: vec![],
-    };
+    let mut script = Script { types: vec![], inputs: vec![], nodes: vec![] };
     for index in 0..counts.types {
         let at = counts.type_at(index);
         expect_mark(bytes, at, b"TY")?;
@@ -376,8 +364,9 @@ pub fn encode(script: &Script) -> Vec<u8> {
 /// Writes the first records of the tables, as many as the counts say, into
 /// an output with `room` bytes.
 pub fn write(counts: &Counts, tables: &Script, room: usize) -> Result<Vec<u8>, Reply> {
-    let short =
-        tables.types.len() < counts.types || tables.inputs.len() < counts.inputs || tables.nodes.len() < counts.nodes;
+    let short = tables.types.len() < counts.types
+        || tables.inputs.len() < counts.inputs
+        || tables.nodes.len() < counts.nodes;
     if short {
         return Err(Reply::new(1, 0));
     }
