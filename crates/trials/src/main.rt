@@ -1,5 +1,7 @@
 // Runs the packed files of data/ through the proved functions and prints each reply, behind its number in the file: scripts.bin through
-// reader and checker, makes.bin through the maker. Each record stands behind its length in four bytes.
+// reader and checker, makes.bin through the maker, inputs.bin through the program's answer. Each record stands behind its length in
+// four bytes.
+mod answers;
 mod calls;
 mod print;
 mod scripts;
@@ -8,6 +10,7 @@ mod scripts;
 enum Kind {
     Scripts,
     Calls,
+    Inputs,
 }
 
 // The number of the four bytes of a length, the low byte first.
@@ -21,6 +24,7 @@ fn try_record(kind: Kind, k: usize, record: &[u8]) {
     match kind {
         Kind::Scripts => scripts::try_script(k, record),
         Kind::Calls => calls::try_call(k, record),
+        Kind::Inputs => answers::try_input(k, record),
     }
 }
 
@@ -69,4 +73,5 @@ fn run(kind: Kind, path: &[u8]) {
 fn main() {
     run(Kind::Scripts, b"scripts.bin");
     run(Kind::Calls, b"makes.bin");
+    run(Kind::Inputs, b"inputs.bin");
 }
