@@ -1,3 +1,4 @@
+-- `specializer::before::call_refusal` meets its contract: the settings' count and the fuel decide. Assumes nothing.
 use mathlib.Core.Path.{ap}
 use native.Mathlib.Omega.{arith}
 use Rattle.lambdamix.specs.Limits.{maxFuel}
@@ -7,32 +8,18 @@ use Rattle.specializer.proofs.Refusing.{wrong-settings, wrong-fuel, rig
 use borrow.Author.Needs.{needs}
 use Rattle.specializer.proofs.before.call_refusal.Statement.{statement}
 use Rattle.specializer.proofs.before.call_refusal.Tie as tie
-use Rattle.specializer.proofs.before.call_refusal.Reads as reads
-use Rattle.specializer.proofs.before.call_refusal.Lts as lts
-use Rattle.specializer.proofs.start.early.Reads as early-reads
 
--- src/before.rt:31:18
-early-requires : tie.Need-early-requires
-early-requires c κs = search needs
-
--- src/before.rt:31:18
-cast-wanted : tie.Need-cast-wanted
-cast-wanted c = search needs
-
--- src/before.rt:33:9
 returns : tie.Need-returns
 unfolding refusalOf
 returns c = λ s zs i l. wrong-settings s zs (c .before .before .before .args .fuel) (λ e. let z : ⊥ = omega (arith, c .if1 .taken, l, e, ap staticInputs i, c .before .early .ensures) in z)
 
--- src/before.rt:39:9
 returns-2 : tie.Need-returns-2
 unfolding refusalOf maxFuel
 returns-2 c = λ s zs i l. wrong-fuel s zs (c .before .before .before .before .args .fuel) (omega (arith, c .before .if1 .left, l, ap staticInputs i, c .before .before .early .ensures)) (omega (arith, c .if2 .taken))
 
--- src/before.rt:28:1
 returns-3 : tie.Need-returns-3
 unfolding refusalOf maxFuel
 returns-3 c = λ s zs i l. right-call s zs (c .before .before .before .before .args .fuel) (omega (arith, c .before .if1 .left, l, ap staticInputs i, c .before .before .early .ensures)) (omega (arith, c .if2 .left))
 
 pub call-refusal-spec : {M : Type 1} → statement M
-call-refusal-spec = tie.close (tie.spec early-requires cast-wanted returns returns-2 returns-3)
+call-refusal-spec = tie.close (tie.spec (λ c κs. search needs) (λ c. search needs) returns returns-2 returns-3)
