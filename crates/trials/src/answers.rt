@@ -46,7 +46,7 @@ fn answered(input: &[u8], out: &mut [u8]) -> Response {
     )
 }
 
-pub fn try_input(k: usize, input: &[u8]) {
+pub(crate) fn try_input(k: usize, input: &[u8]) {
     let mut out = [0u8; 65536];
     match answered(input, &mut out) {
         Response::Printed(n) => print_text(k, &out, n),

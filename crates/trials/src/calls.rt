@@ -227,7 +227,7 @@ fn try_split(k: usize, record: &[u8], count: u8, settings: &[i32], out: &mut [u8
     }
 }
 
-pub fn try_call(k: usize, record: &[u8]) {
+pub(crate) fn try_call(k: usize, record: &[u8]) {
     let mut settings = [0i32; 255];
     let mut space = [0u8; 65536];
     let count = column::at8(record, 17);

@@ -1,15 +1,15 @@
 // A line of numbers.
 use libc::STDOUT_FILENO;
 
-pub fn first(k: usize) {
+pub(crate) fn first(k: usize) {
     io::print_decimal(STDOUT_FILENO, k as u64);
 }
 
-pub fn next(x: usize) {
+pub(crate) fn next(x: usize) {
     io::write_all(STDOUT_FILENO, b" ");
     io::print_decimal(STDOUT_FILENO, x as u64);
 }
 
-pub fn end() {
+pub(crate) fn end() {
     io::write_all(STDOUT_FILENO, b"\n");
 }

@@ -17,7 +17,7 @@ fn print_verdict(k: usize, told: Verdict) {
     }
 }
 
-pub fn try_script(k: usize, file: &[u8]) {
+pub(crate) fn try_script(k: usize, file: &[u8]) {
     let mut parameters = [0u16; 64];
     let mut results = [0u16; 64];
     let mut inputs = [0u16; 16];
