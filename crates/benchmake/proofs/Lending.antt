@@ -9,7 +9,7 @@ use lib.ListN.{length}
 use borrow.Author.Tests.{le-leb}
 use Rattle.lambdamix.specs.Limits.{maxTypes, maxInputs, maxNodes}
 use Rattle.script.specs.Tables.{Tables, longEnough}
-use Rattle.specializer.specs.Making.{Stores, storesSuffice}
+use Rattle.specializer.specs.Making.{Stores, suffices, storesSuffice}
 use Rattle.respond.specs.declared.Response.{Response}
 use Rattle.respond.specs.declared.Response.the-variants.{Printed, TooShort}
 use Rattle.respond.specs.Response.{programFuel, response}
@@ -33,7 +33,7 @@ record Lent (x : Tables) (zs : List ℤ) (m : Stores) (file out : List ℕ) : Ty
   text : 65536 ≤ length out
 
 lent-suffices : {x : Tables} {zs : List ℤ} {m : Stores} {file out : List ℕ} → Lent x zs m file out → roomy x zs m file out ≡ true
-unfolding roomy textRoom longEnough storesSuffice programFuel maxTypes maxInputs maxNodes
+unfolding roomy textRoom longEnough storesSuffice suffices programFuel maxTypes maxInputs maxNodes
 lent-suffices {out} l =
     rw (
       l .parameters,

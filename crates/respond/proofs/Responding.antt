@@ -25,7 +25,7 @@ use Rattle.script.specs.Columns.{enough}
 use Rattle.script.specs.Tables.{Tables, longEnough, over}
 use Rattle.script.specs.Replies.{Reads}
 use Rattle.printer.specs.Places.{most}
-use Rattle.specializer.specs.Making.{Stores, storesSuffice, storesAfter}
+use Rattle.specializer.specs.Making.{Stores, suffices, storesSuffice, storesAfter}
 use Rattle.respond.specs.declared.Response.the-variants.{Printed, TooShort}
 use Rattle.respond.specs.Response.{programFuel, scriptLength, scriptPart, settingsPart, inputReply, replyTo, unmadeText, replyText, response}
 use Rattle.respond.specs.Answers.{textRoom, roomy, responded, respondedOutput, runRefusal, respondedStores, Responds}
@@ -97,7 +97,7 @@ module _ (x : Tables) (zs : List ℤ) (before : Stores) (file out : List ℕ) {b
     (told : b ≡ (enough 64 16 4096 (length (x .parameters)) (length (x .results)) (length (x .inputs)) (length (x .kinds)) (length (x .a)) (length (x .b)) (length (x .c)) (length (x .values))
     && (leb 17 (length zs) && ((leb 4016 (length (before .cells)) && (leb 4016 (length (before .words)) && leb 8016 (length (before .codes)))) && (leb 65536 (length file) && leb 65536 (length out)))))) where
   room-is : roomy x zs before file out ≡ b
-  unfolding roomy textRoom longEnough enough storesSuffice programFuel maxTypes maxInputs maxNodes
+  unfolding roomy textRoom longEnough enough storesSuffice suffices programFuel maxTypes maxInputs maxNodes
   room-is = sym told
 
   pub call-answered :

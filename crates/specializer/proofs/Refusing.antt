@@ -13,8 +13,8 @@ use Rattle.lambdamix.specs.Script.{Script}
 use Rattle.lambdamix.specs.Structure.{orElse}
 use Rattle.lambdamix.specs.Specializing.{callRefusal, refusedBy, staticInputs}
 use Rattle.script.specs.Tables.{Tables, tablesScript, tablesRefusal}
-use Rattle.specializer.specs.Making.{Stores, storesSuffice, refusalBefore}
-use Rattle.specializer.specs.Entry.{suffices, laterRefusal}
+use Rattle.specializer.specs.Making.{Stores, suffices, storesSuffice, refusalBefore}
+use Rattle.specializer.specs.Entry.{laterRefusal}
 
 module _ (s : Script) (zs : List ℤ) (fuel : ℕ) where
   pub wrong-settings : ¬ (length zs ≡ staticInputs (s .inputs)) → some (record { number = 12; place = 0 }) ≡ callRefusal s zs fuel
@@ -36,5 +36,5 @@ pub refusal-joined :
     length (m .cells) ≡ cells → length (m .words) ≡ words → length (m .codes) ≡ codes →
     refusalBefore bare t i n x zs fuel m
     ≡ orElse (tablesRefusal t i n x) (laterRefusal bare (tablesScript t i n x) zs fuel (suffices fuel cells words codes))
-unfolding refusalBefore laterRefusal storesSuffice suffices
+unfolding refusalBefore laterRefusal storesSuffice
 refusal-joined bare t i n x zs fuel m e f g = rw (e, f, g)
