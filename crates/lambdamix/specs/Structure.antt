@@ -23,6 +23,11 @@ unfoldable pub refusedAt : ℕ → Option ℕ → Option Refusal
 refusedAt k none = none
 refusedAt k (some i) = some (record { number = k; place = i })
 
+-- a refusal, unless a test holds
+unfoldable pub refusedUnless : Bool → ℕ → ℕ → Option Refusal
+refusedUnless true k p = none
+refusedUnless false k p = some (record { number = k; place = p })
+
 unfoldable pub orElse : {A : Type 0} → Option A → Option A → Option A
 orElse none r = r
 orElse (some a) r = some a

@@ -1,147 +1,194 @@
--- One step of the walks on columns, field by field, as the code takes it. Assumes nothing.
-use Prim.Native.Nat.{ℕ, suc, _+_, _≤_, _<_, max}
-use mathlib.Core.Path.{_≡_, refl, sym, ap, _∙_}
+-- The walk of heights, as the code takes it: a height within the limit or the lowest node that is too high, in one number.
+-- Assumes nothing.
+use Prim.Native.Nat.{ℕ, suc, _+_, _-_, _≤_, _<_, max}
+use mathlib.Core.Path.{_≡_, refl, ap, _∙_}
 use mathlib.Core.Bool.{Bool, true, false}
-use mathlib.Core.List.{List, []}
+use mathlib.Core.List.{List, [], _∷_}
 use mathlib.Core.Option.{Option, none, some}
 use native.Mathlib.Omega.{arith}
-use native.Mathlib.Nat.{zero-max, max-zero}
+use native.Mathlib.Nat.{max-zero}
+use native.Mathlib.Numerals.{add-one}
 use lib.ListN.{getD}
 use lib.Dec.{leb}
-use borrow.Author.Tests.{le-ltb, leb-true}
+use borrow.Author.Tests.{le-ltb, le-leb, lt-leb, leb-true}
 use Rattle.lambdamix.specs.Limits.{maxHeight}
 use Rattle.lambdamix.specs.Falling.{guarded, below}
 use Rattle.lambdamix.specs.Structure.{firstBy, lowest, lowestBy}
 use Rattle.lambdamix.proofs.Falling.{below-at, falling-step}
-use Rattle.script.specs.declared.Found.{Found}
-use Rattle.script.specs.declared.Found.the-variants.{Nowhere}
-use Rattle.script.specs.Replies.{foundAt}
-use Rattle.script.specs.Walks.{Columns, useAt, isChild, keptIf, childrenAt, gathered, heightStep, heightAt, tooHighStep, tooHighAt, Measured}
+use Rattle.script.specs.Walks.{Columns, columnsIn, useAt, wordChildren, childrenAt, gathered, heightStep, heightAt, tooHighStep, tooHighAt, Tall, low, high, TallJoin, TallNode, TallOver}
 
 pub lowest-none : (r : Option ℕ) → lowest r none ≡ r
 unfolding lowest
 lowest-none none = refl
 lowest-none (some i) = refl
 
-gathered-field :
-    {A : Type 0} (join : A → A → A) (d : A) → ((r : A) → join d r ≡ r)
-    → (self : ℕ → A) (b : Bool) (f : ℕ) (fs : List ℕ)
-    → gathered join d self (keptIf b f fs) ≡ join (guarded b d self f) (gathered join d self fs)
-unfolding gathered keptIf guarded
-gathered-field join d left self true f fs = refl
-gathered-field join d left self false f fs = sym (left (gathered join d self fs))
+pub lowest-first : (i j : ℕ) → i ≤ j → lowest (some i) (some j) ≡ some i
+unfolding lowest lowestBy
+lowest-first i j h = rw (le-leb i j h)
 
--- the answers at a node's children are those at its three fields
-pub gathered-fields :
-    {A : Type 0} (join : A → A → A) (d : A) → ((r : A) → join d r ≡ r) → ((r : A) → join r d ≡ r)
-    → (self : ℕ → A) (x : Columns) (i : ℕ)
-    → gathered join d self (childrenAt x i)
-    ≡ join (guarded (isChild (useAt x i 0)) d self (getD (x .a) i 0))
-    (join (guarded (isChild (useAt x i 1)) d self (getD (x .b) i 0)) (guarded (isChild (useAt x i 2)) d self (getD (x .c) i 0)))
-unfolding childrenAt gathered
-gathered-fields join d left right self x i =
-    gathered-field join d left self (isChild (useAt x i 0)) (getD (x .a) i 0) _
-    ∙ ap (join _) (gathered-field join d left self (isChild (useAt x i 1)) (getD (x .b) i 0) _
-    ∙ ap (join _) (gathered-field join d left self (isChild (useAt x i 2)) (getD (x .c) i 0) [] ∙ right _))
+pub lowest-second : (i j : ℕ) → j ≤ i → lowest (some i) (some j) ≡ some j
+unfolding lowest lowestBy
+lowest-second i j h = go (leb i j) refl
+  where
+    go : (b : Bool) → leb i j ≡ b → lowestBy b i j ≡ some j
+    go true e = ap some (omega (arith, leb-true i j e))
+    go false e = refl
 
 -- a number that is not below gets the default
 pub below-out : {A : Type 0} (n : ℕ) (d : A) (f : ℕ → A) (m : ℕ) → n ≤ m → below n d f m ≡ d
 unfolding below guarded
 below-out n d f m h = rw (le-ltb m n h)
 
--- at a field: a child below its parent, another number, or no child
-pub guarded-child : {A : Type 0} (d e : A) (f : ℕ → A) (n m : ℕ) → m < n → guarded true d (below n e f) m ≡ f m
-unfolding guarded
-guarded-child d e f n m h = below-at n e f m h
+-- ---- a node over its children, which stand in its word
 
-pub guarded-stray : {A : Type 0} (d e : A) (f : ℕ → A) (n m : ℕ) → n ≤ m → guarded true d (below n e f) m ≡ e
-unfolding guarded
-guarded-stray d e f n m h = below-out n e f m h
+module _ (ws : List ℕ) (i : ℕ) {w : ℕ} (e : w ≡ getD ws i 0) where
+  pub word-children : childrenAt (columnsIn ws) i ≡ wordChildren w
+  unfolding childrenAt useAt wordChildren
+  word-children = rw e
 
--- a node's height by its fields
-pub height-fields :
-    (x : Columns) (i : ℕ)
-    → heightAt x i
-    ≡ suc (max (guarded (isChild (useAt x i 0)) 0 (below i 1 (heightAt x)) (getD (x .a) i 0))
-    (max (guarded (isChild (useAt x i 1)) 0 (below i 1 (heightAt x)) (getD (x .b) i 0))
-    (guarded (isChild (useAt x i 2)) 0 (below i 1 (heightAt x)) (getD (x .c) i 0))))
-unfolding heightAt heightStep
-height-fields x i =
-    falling-step 1 (heightStep x) i ∙ ap suc (gathered-fields max 0 zero-max max-zero (below i 1 (heightAt x)) x i)
+  pub word-height : heightAt (columnsIn ws) i ≡ suc (gathered max 0 (below i 1 (heightAt (columnsIn ws))) (wordChildren w))
+  unfolding heightAt heightStep
+  word-height =
+      falling-step 1 (heightStep (columnsIn ws)) i
+      ∙ ap (λ (ms : List ℕ). suc (gathered max 0 (below i 1 (heightAt (columnsIn ws))) ms)) word-children
 
-pub too-high-fields :
-    (x : Columns) (i : ℕ)
-    → tooHighAt x i
-    ≡ lowest (firstBy (leb (heightAt x i) maxHeight) i none)
-    (lowest (guarded (isChild (useAt x i 0)) none (below i none (tooHighAt x)) (getD (x .a) i 0))
-    (lowest (guarded (isChild (useAt x i 1)) none (below i none (tooHighAt x)) (getD (x .b) i 0))
-    (guarded (isChild (useAt x i 2)) none (below i none (tooHighAt x)) (getD (x .c) i 0))))
-unfolding tooHighAt tooHighStep lowest
-too-high-fields x i =
-    falling-step none (tooHighStep x) i
-    ∙ ap (lowest (firstBy (leb (heightAt x i) maxHeight) i none)) (gathered-fields lowest none (λ r. refl) lowest-none (below i none (tooHighAt x)) x i)
+  word-too-high :
+      tooHighAt (columnsIn ws) i
+      ≡ lowest (firstBy (leb (heightAt (columnsIn ws) i) maxHeight) i none)
+      (gathered lowest none (below i none (tooHighAt (columnsIn ws))) (wordChildren w))
+  unfolding tooHighAt tooHighStep
+  word-too-high =
+      falling-step none (tooHighStep (columnsIn ws)) i
+      ∙ ap (λ (ms : List ℕ). lowest (firstBy (leb (heightAt (columnsIn ws) i) maxHeight) i none)
+      (gathered lowest none (below i none (tooHighAt (columnsIn ws))) ms)) word-children
 
--- what the walk measures of a field m of node i, which may be a child
-abbrev pub MeasuredField : Columns → ℕ → Bool → ℕ → ℕ → Found → Type 0
-MeasuredField x i b m h f =
-    Measured h f (guarded b 0 (below i 1 (heightAt x)) m) (guarded b none (below i none (tooHighAt x)) m) (i + 1)
+  pub tall-node :
+      {p r : ℕ} → TallOver (columnsIn ws) i (wordChildren w) p → TallNode i p r
+      → Tall r (heightAt (columnsIn ws) i) (tooHighAt (columnsIn ws) i)
+  tall-node t n = rw (word-too-high, word-height) (n .over _ _ t)
 
-pub measured-child :
-    (x : Columns) (i m : ℕ) (b : Bool) {h : ℕ} {f : Found} → b ≡ true → m < i
-    → Measured h f (heightAt x m) (tooHighAt x m) (m + 2) → MeasuredField x i b m h f
-measured-child x i m b e l p =
-    record {
-      exact = rw (e, guarded-child 0 1 (heightAt x) i m l) (p .exact);
-      place = rw (e, guarded-child none none (tooHighAt x) i m l) (p .place);
-      small = omega (arith, p .small);
-    }
+-- ---- the children, one after the other
 
-pub measured-stray : (x : Columns) (i m : ℕ) (b : Bool) → b ≡ true → i ≤ m → MeasuredField x i b m 1 Nowhere
-unfolding foundAt
-measured-stray x i m b e l =
-    record {
-      exact = rw (e, guarded-stray 0 1 (heightAt x) i m l);
-      place = rw (e, guarded-stray none none (tooHighAt x) i m l);
-      small = omega arith;
-    }
+module _ (x : Columns) (i : ℕ) where
+  -- a child below its parent, and any other number
+  pub tall-child :
+      {m r : ℕ} → m < i → Tall r (heightAt x m) (tooHighAt x m) → Tall r (below i 1 (heightAt x) m) (below i none (tooHighAt x) m)
+  tall-child {m} h t = rw (below-at i 1 (heightAt x) m h, below-at i none (tooHighAt x) m h) t
 
-pub measured-blank : (x : Columns) (i m : ℕ) (b : Bool) → b ≡ false → MeasuredField x i b m 0 Nowhere
-unfolding foundAt guarded
-measured-blank x i m b e = record { exact = rw e; place = rw e; small = omega arith }
+  pub tall-stray : {m : ℕ} → i ≤ m → Tall 1 (below i 1 (heightAt x) m) (below i none (tooHighAt x) m)
+  unfolding maxHeight
+  tall-stray {m} h = rw (below-out i 1 (heightAt x) m h, below-out i none (tooHighAt x) m h) (low {h = 1} (omega arith))
 
--- a node over its three fields
-pub measured-node :
-    (x : Columns) (i : ℕ) {hp hq hs h : ℕ} {fp fq fs f : Found}
-    → MeasuredField x i (isChild (useAt x i 0)) (getD (x .a) i 0) hp fp
-    → MeasuredField x i (isChild (useAt x i 1)) (getD (x .b) i 0) hq fq
-    → MeasuredField x i (isChild (useAt x i 2)) (getD (x .c) i 0) hs fs
-    → h ≡ suc (max hp (max hq hs))
-    → foundAt f ≡ lowest (firstBy (leb h maxHeight) i none) (lowest (foundAt fp) (lowest (foundAt fq) (foundAt fs)))
-    → Measured h f (heightAt x i) (tooHighAt x i) (i + 2)
-measured-node x i {h} p q s e g =
-    record {
-      exact = own;
-      place = g ∙ rw (p .place, q .place, s .place, too-high-fields, own);
-      small = omega (arith, p .small, q .small, s .small);
-    }
-  where
-    own : h ≡ heightAt x i
-    own = e ∙ rw (p .exact, q .exact, s .exact, height-fields)
+  pub over-none : (ms : List ℕ) → ms ≡ [] → TallOver x i ms 0
+  unfolding gathered maxHeight
+  over-none ms e = rw e (low {h = 0} (omega arith))
 
-some-lowest : (i : ℕ) (r : Option ℕ) → lowest (some i) r ≡ none → ⊥
-unfolding lowest lowestBy
-some-lowest i none e = let z : _≡_ {A = ℕ} 0 1 = cc in omega arith
-some-lowest i (some j) e = go (leb i j) e
-  where
-    go : (b : Bool) → lowestBy b i j ≡ none → ⊥
-    go true q = let z : _≡_ {A = ℕ} 0 1 = cc in omega arith
-    go false q = let z : _≡_ {A = ℕ} 0 1 = cc in omega arith
+  pub over-last : (m : ℕ) {r : ℕ} → Tall r (below i 1 (heightAt x) m) (below i none (tooHighAt x) m) → TallOver x i (m ∷ []) r
+  unfolding gathered
+  over-last m t = rw (max-zero (below i 1 (heightAt x) m), lowest-none (below i none (tooHighAt x) m)) t
 
--- a node whose tree has no node that is too high is low enough
-pub low-enough : (x : Columns) (i : ℕ) → tooHighAt x i ≡ none → heightAt x i ≤ maxHeight
-unfolding firstBy
-low-enough x i e = go (leb (heightAt x i) maxHeight) refl _ (sym (too-high-fields x i) ∙ e)
-  where
-    go : (b : Bool) → leb (heightAt x i) maxHeight ≡ b → (r : Option ℕ) → lowest (firstBy b i none) r ≡ none → heightAt x i ≤ maxHeight
-    go true q r h = leb-true _ _ q
-    go false q r h = absurd (some-lowest i r h)
+  pub over-more :
+      (m : ℕ) (ms : List ℕ) {p q r : ℕ} → Tall p (below i 1 (heightAt x) m) (below i none (tooHighAt x) m) → TallOver x i ms q
+      → TallJoin p q r → TallOver x i (m ∷ ms) r
+  unfolding gathered
+  over-more m ms t u j = j .joined _ _ _ _ t u
+
+-- ---- two answers in one
+
+-- a height and what is no less
+after-height : {p q h g : ℕ} {t u : Option ℕ} → p ≤ q → p ≤ 256 → Tall p h t → Tall q g u → Tall q (max h g) (lowest t u)
+unfolding lowest maxHeight
+after-height {h = h} {g = g} l k (low a) (low b) = let e : max h g ≡ g = omega arith in rw e (low b)
+after-height {h = h} {g = g} l k (low a) (high e b c) = high {h = max h g} e (omega arith) c
+after-height l k (high e a c) t = absurd (omega arith)
+
+before-height : {p q h g : ℕ} {t u : Option ℕ} → q ≤ p → q ≤ 256 → Tall p h t → Tall q g u → Tall p (max h g) (lowest t u)
+unfolding lowest maxHeight
+before-height {h = h} {g = g} l k (low a) (low b) = let e : max h g ≡ h = omega arith in rw e (low a)
+before-height {h = h} {g = g} l k (high e a c) (low b) = high {h = max h g} e (omega arith) c
+before-height l k t (high e b c) = absurd (omega arith)
+
+-- two places
+first-place : {p q h g : ℕ} {t u : Option ℕ} → p < q → 256 < p → Tall p h t → Tall q g u → Tall p (max h g) (lowest t u)
+unfolding maxHeight
+first-place l k (low a) t = absurd (omega arith)
+first-place l k (high e a c) (low b) = absurd (omega arith)
+first-place {h = h} {g = g} l k (high {j = i} e a c) (high {j = j} f b d) =
+    rw (lowest-first i j (omega arith)) (high {h = max h g} e (omega arith) c)
+
+second-place : {p q h g : ℕ} {t u : Option ℕ} → q ≤ p → 256 < q → Tall p h t → Tall q g u → Tall q (max h g) (lowest t u)
+unfolding maxHeight
+second-place l k t (low b) = absurd (omega arith)
+second-place l k (low a) (high f b d) = absurd (omega arith)
+second-place {h = h} {g = g} l k (high {j = i} e a c) (high {j = j} f b d) =
+    rw (lowest-second i j (omega arith)) (high {h = max h g} f (omega arith) d)
+
+module _ {p q : ℕ} where
+  pub join-second : p < q → p ≤ 256 → TallJoin p q q
+  join-second l k = record { joined = λ h g t u. after-height (omega arith) k }
+
+  pub join-first : q ≤ p → q ≤ 256 → TallJoin p q p
+  join-first l k = record { joined = λ h g t u. before-height l k }
+
+  pub join-places-first : p < q → 256 < p → TallJoin p q p
+  join-places-first l k = record { joined = λ h g t u. first-place l k }
+
+  pub join-places-second : q ≤ p → 256 < q → TallJoin p q q
+  join-places-second l k = record { joined = λ h g t u. second-place l k }
+
+-- ---- a node over the answer of its children
+
+grown :
+    (i : ℕ) {p h : ℕ} {t : Option ℕ} → p < 256 → Tall p h t → Tall (p + 1) (suc h) (lowest (firstBy (leb (suc h) maxHeight) i none) t)
+unfolding maxHeight firstBy lowest
+grown i {h = h} l (low a) = rw (le-leb (suc h) 256 (omega arith), add-one h) (low {h = suc h} (omega arith))
+grown i l (high e a c) = absurd (omega arith)
+
+-- the first that is too high
+crossed :
+    (i : ℕ) {p r h : ℕ} {t : Option ℕ} → 256 ≤ p → p ≤ 256 → r ≡ 257 + i → i < 65536 → Tall p h t
+    → Tall r (suc h) (lowest (firstBy (leb (suc h) maxHeight) i none) t)
+unfolding maxHeight firstBy lowest
+crossed i {h = h} l k e b (low a) = rw (lt-leb (suc h) 256 (omega arith)) (high {h = suc h} e (omega arith) b)
+crossed i l k e b (high f a c) = absurd (omega arith)
+
+-- a place below that is lower, and one that is not
+passed-on :
+    (i : ℕ) {p h : ℕ} {t : Option ℕ} → 256 < p → p < 257 + i → Tall p h t
+    → Tall p (suc h) (lowest (firstBy (leb (suc h) maxHeight) i none) t)
+unfolding maxHeight firstBy
+passed-on i l k (low a) = absurd (omega arith)
+passed-on i {h = h} l k (high {j = j} f a c) = rw (lt-leb (suc h) 256 (omega arith), lowest-second i j (omega arith)) (high {h = suc h} f (omega arith) c)
+
+kept-own :
+    (i : ℕ) {p r h : ℕ} {t : Option ℕ} → 256 < p → 257 + i ≤ p → r ≡ 257 + i → i < 65536 → Tall p h t
+    → Tall r (suc h) (lowest (firstBy (leb (suc h) maxHeight) i none) t)
+unfolding maxHeight firstBy
+kept-own i l k e b (low a) = absurd (omega arith)
+kept-own i {h = h} l k e b (high {j = j} f a c) =
+    rw (lt-leb (suc h) 256 (omega arith), lowest-first i j (omega arith)) (high {h = suc h} e (omega arith) b)
+
+module _ {i p : ℕ} where
+  pub node-low : p < 256 → TallNode i p (p + 1)
+  node-low l = record { over = λ h t. grown i l }
+
+  pub node-crosses : 256 ≤ p → p ≤ 256 → i < 65536 → TallNode i p (257 + i)
+  node-crosses l k b = record { over = λ h t. crossed i l k refl b }
+
+  pub node-passes-on : 256 < p → p < 257 + i → TallNode i p p
+  node-passes-on l k = record { over = λ h t. passed-on i l k }
+
+  pub node-keeps-own : 256 < p → 257 + i ≤ p → i < 65536 → TallNode i p (257 + i)
+  node-keeps-own l k b = record { over = λ h t. kept-own i l k refl b }
+
+-- ---- the answer at the root
+
+pub tall-low : {r h : ℕ} {t : Option ℕ} → Tall r h t → r ≤ 256 → (h ≤ maxHeight) × (t ≡ none)
+unfolding maxHeight
+tall-low (low a) l = (a, refl)
+tall-low (high e a c) l = absurd (omega arith)
+
+pub tall-high : {r h : ℕ} {t : Option ℕ} → Tall r h t → 256 < r → t ≡ some (r - 257)
+unfolding maxHeight
+tall-high (low a) l = absurd (omega arith)
+tall-high (high e a c) l = ap some (omega arith)

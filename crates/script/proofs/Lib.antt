@@ -1,6 +1,7 @@
 pub mod TableLaws
 pub mod RefusalLaws
 pub mod FirstFailing
+pub mod Shapes
 pub mod UseCounts
 pub mod Lowest
 pub mod Reaching
@@ -8,3 +9,6 @@ pub mod Heights
 pub mod Scopes
 pub mod TreeForms
 pub mod Agreement
+pub mod SameWalks
+pub mod SignedBits
+pub mod WordLaws

@@ -7,8 +7,8 @@ use mathlib.Core.Option.{Option, none, some}
 use lib.Dec.{leb}
 use native.Mathlib.Omega.{arith}
 use Rattle.lambdamix.specs.Checker.{Refusal}
-use Rattle.lambdamix.specs.Structure.{firstBy, firstFailing, orElse}
-use Rattle.script.specs.Refusals.{refusedUnless, refusedRecord, earlier, earlierBy}
+use Rattle.lambdamix.specs.Structure.{firstBy, firstFailing, orElse, refusedUnless}
+use Rattle.script.specs.Refusals.{refusedRecord, earlier, earlierBy}
 
 some-not-none : {A : Type 0} {a : A} → some a ≡ none → ⊥
 some-not-none e = let z : _≡_ {A = ℕ} 0 1 = cc in omega arith

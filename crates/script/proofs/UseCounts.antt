@@ -1,17 +1,20 @@
 -- Counting the uses of nodes up to two (refusal 6): counts in a lent list, and the uses in a script's list of nodes.
 -- Assumes nothing.
 use Prim.Native.Nat.{ℕ, _+_, _≤_, _<_, min}
-use mathlib.Core.Path.{_≡_, refl, sym, ap, subst, _∙_}
+use mathlib.Core.Path.{_≡_, refl, sym, subst, _∙_}
 use mathlib.Core.Bool.{Bool, true, false}
 use mathlib.Core.List.{List, [], _∷_}
 use native.Mathlib.Omega.{arith}
+use native.Mathlib.Numerals.{add-one}
 use lib.ListN.{getD, length, set, replicate, length-set, length-replicate, getD-replicate}
 use lib.Seq.{getD-set-same, getD-set-other}
 use lib.Dec.{eqb}
 use borrow.Author.Tests.{eqb-true, eqb-false, eq-eqb, ne-eqb}
 use Rattle.lambdamix.specs.Structure.{oneIf, occurrences}
 use Rattle.lambdamix.specs.declared.Use.{Use}
-use Rattle.script.specs.Walks.{Columns, useAt, isChild, keptIf, childrenAt, Counted}
+use Rattle.script.specs.Kinds.{useOf}
+use Rattle.script.specs.Walks.{columnsIn, isChild, keptIf, rowChildren, wordChildren, usesBelow, Counted}
+use Rattle.script.proofs.Heights.{word-children}
 
 -- no node is counted
 pub counted-none : (xs : List ℕ) → Counted (λ j. 0) xs xs
@@ -48,36 +51,31 @@ counted-more xs m =
 pub counted-full : (xs : List ℕ) (m : ℕ) → 2 ≤ getD xs m 0 → Counted (λ j. occurrences j (m ∷ [])) xs xs
 counted-full xs m h = counted-one xs xs m refl (λ l. omega arith) (λ j n. refl)
 
--- a field's use is counted before those of the others
-pub occurrences-field :
-    (b : Bool) (m : ℕ) (ms : List ℕ) (j : ℕ) → occurrences j (keptIf b m ms) ≡ occurrences j (keptIf b m []) + occurrences j ms
-unfolding occurrences keptIf
-occurrences-field true m ms j = omega arith
-occurrences-field false m ms j = omega arith
+-- a field that may be a child is counted before the others
+counted-field :
+    (b : Bool) (m : ℕ) (ms : List ℕ) {xs ys zs : List ℕ} → Counted (λ j. occurrences j (keptIf b m [])) xs ys
+    → Counted (λ j. occurrences j ms) ys zs → Counted (λ j. occurrences j (keptIf b m ms)) xs zs
+unfolding keptIf occurrences
+counted-field true m ms p q = counted-same (λ j. omega arith) (counted-both p q)
+counted-field false m ms p q = counted-same (λ j. omega arith) (counted-both p q)
 
--- the three fields of a node
-counted-fields :
-    (a b c : Bool) (f g h : ℕ) {ws xs ys zs : List ℕ}
-    → Counted (λ j. occurrences j (keptIf a f [])) ws xs
-    → Counted (λ j. occurrences j (keptIf b g [])) xs ys
-    → Counted (λ j. occurrences j (keptIf c h [])) ys zs
-    → Counted (λ j. occurrences j (keptIf a f (keptIf b g (keptIf c h [])))) ws zs
-counted-fields a b c f g h p q r =
-    counted-same (λ j. occurrences-field a f (keptIf b g (keptIf c h [])) j ∙ ap (_+_ _) (occurrences-field b g (keptIf c h []) j))
-    (counted-both p (counted-both q r))
+-- the three fields, by the uses that the table told
+pub counted-fields :
+    (k : ℕ) (u v w : Use) {a a′ b b′ c c′ : ℕ} {ws xs ys zs : List ℕ}
+    → u ≡ useOf k 0 → v ≡ useOf k 1 → w ≡ useOf k 2 → a ≡ a′ → b ≡ b′ → c ≡ c′
+    → Counted (λ j. occurrences j (keptIf (isChild u) a [])) ws xs
+    → Counted (λ j. occurrences j (keptIf (isChild v) b [])) xs ys
+    → Counted (λ j. occurrences j (keptIf (isChild w) c [])) ys zs
+    → Counted (λ j. occurrences j (rowChildren k a′ b′ c′)) ws zs
+counted-fields k u v w d e f g h l p q r =
+    rw (← d, ← e, ← f, ← g, ← h, ← l) (counted-field (isChild u) _ _ p (counted-field (isChild v) _ _ q r))
 
--- the children of a node, whose fields and uses are as told
-pub counted-children :
-    (x : Columns) (i : ℕ) (u v w : Use) {f g h : ℕ} {ws xs ys zs : List ℕ}
-    → u ≡ useAt x i 0 → v ≡ useAt x i 1 → w ≡ useAt x i 2
-    → f ≡ getD (x .a) i 0 → g ≡ getD (x .b) i 0 → h ≡ getD (x .c) i 0
-    → Counted (λ j. occurrences j (keptIf (isChild u) f [])) ws xs
-    → Counted (λ j. occurrences j (keptIf (isChild v) g [])) xs ys
-    → Counted (λ j. occurrences j (keptIf (isChild w) h [])) ys zs
-    → Counted (λ j. occurrences j (childrenAt x i)) ws zs
-unfolding childrenAt
-counted-children x i u v w {f} {g} {h} a b c d e k p q r =
-    rw (← a, ← b, ← c, ← d, ← e, ← k) (counted-fields (isChild u) (isChild v) (isChild w) f g h p q r)
+-- the uses by one node more, which stands in a word
+pub counted-node :
+    (ws : List ℕ) (i : ℕ) {w : ℕ} {xs ys zs : List ℕ} → w ≡ getD ws i 0 → Counted (usesBelow (columnsIn ws) i) xs ys
+    → Counted (λ j. occurrences j (wordChildren w)) ys zs → Counted (usesBelow (columnsIn ws) (i + 1)) xs zs
+unfolding usesBelow
+counted-node ws i e p q = counted-same (λ j. rw (add-one i, word-children ws i e)) (counted-both p q)
 
 -- capped counts that started at zero tell whether a node is used once
 pub counted-once :

@@ -10,9 +10,9 @@ use lib.ListN.{getD}
 use lib.Dec.{leb}
 use Rattle.lambdamix.specs.Script.{FunctionType, Node}
 use Rattle.lambdamix.specs.Checker.{Refusal}
-use Rattle.lambdamix.specs.Structure.{orElse}
+use Rattle.lambdamix.specs.Structure.{orElse, refusedUnless}
 use Rattle.script.specs.declared.Found.{Found}
-use Rattle.script.specs.Refusals.{refusedUnless, countsRight, contentOf}
+use Rattle.script.specs.Refusals.{countsRight, contentOf}
 use Rattle.script.specs.Tables.{Tables, rowType, rowInput, rowNode}
 use Rattle.script.specs.Replies.{foundAt}
 

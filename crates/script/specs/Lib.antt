@@ -7,3 +7,4 @@ pub mod Replies
 pub mod Columns
 pub mod Walks
 pub mod Reached
+pub mod Words

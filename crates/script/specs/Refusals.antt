@@ -15,13 +15,9 @@ use Rattle.lambdamix.specs.Arithmetic.{eqZ}
 use Rattle.lambdamix.specs.Script.{Script, FunctionType, Node, rowOf, fields, nodeAt}
 use Rattle.lambdamix.specs.Types.{blankType}
 use Rattle.lambdamix.specs.Checker.{Refusal}
-use Rattle.lambdamix.specs.Structure.{firstFailing, orElse, structureRefusal}
+use Rattle.lambdamix.specs.Structure.{firstFailing, orElse, refusedUnless, structureRefusal}
 use Rattle.script.specs.Bytes.{byteAt}
 use Rattle.script.specs.File.{typeOffset, inputOffset, nodeOffset, fileLength, headTypes, headInputs, headNodes, scriptIn}
-
-unfoldable pub refusedUnless : Bool → ℕ → ℕ → Option Refusal
-refusedUnless true k p = none
-refusedUnless false k p = some (record { number = k; place = p })
 
 -- the first record that fails a test is refused at its offset
 unfoldable pub refusedRecord : ℕ → (ℕ → ℕ) → Option ℕ → Option Refusal

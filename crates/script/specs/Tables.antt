@@ -11,9 +11,9 @@ use lib.ListN.{length, getD, drop}
 use lib.Dec.{leb}
 use Rattle.lambdamix.specs.Script.{Script, FunctionType, Node}
 use Rattle.lambdamix.specs.Checker.{Refusal}
-use Rattle.lambdamix.specs.Structure.{orElse}
+use Rattle.lambdamix.specs.Structure.{orElse, refusedUnless}
 use Rattle.script.specs.File.{numbered, headTypes, headInputs, headNodes, scriptIn, fileBytes}
-use Rattle.script.specs.Refusals.{refusedUnless, scriptRefusal, fileRefusal}
+use Rattle.script.specs.Refusals.{scriptRefusal, fileRefusal}
 
 -- two type columns, the input column, five node columns
 pub record Tables : Type 0 where

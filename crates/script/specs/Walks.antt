@@ -4,38 +4,50 @@ use Prim.Native.Nat.{ℕ, zero, suc, _+_, _≤_, _<_, min, max}
 use mathlib.Core.Path.{_≡_}
 use mathlib.Core.Bool.{Bool, true, false, _||_}
 use mathlib.Core.List.{List, [], _∷_}
-use mathlib.Core.Option.{Option, none}
-use lib.IntN.{ℤ}
+use mathlib.Core.Option.{Option, none, some}
 use lib.ListN.{getD, length}
 use lib.Dec.{leb, ltb, eqb}
 use Rattle.lambdamix.specs.declared.Use.{Use}
 use Rattle.lambdamix.specs.declared.Use.the-variants.{Nothing, Name, Binder, Child, ParameterType, Operation}
 use Rattle.lambdamix.specs.Limits.{maxNodes, maxHeight}
-use Rattle.lambdamix.specs.Falling.{falling}
+use Rattle.lambdamix.specs.Falling.{below, falling}
 use Rattle.lambdamix.specs.Structure.{firstBy, occurrences, lowest, member, unlessBound, structureRefusal}
-use Rattle.script.specs.declared.Found.{Found}
 use Rattle.script.specs.declared.Verdict.{Verdict}
 use Rattle.script.specs.Kinds.{useOf}
 use Rattle.script.specs.Refusals.{nodeFits}
 use Rattle.script.specs.Tables.{Tables, rowNode, tablesScript}
-use Rattle.script.specs.Replies.{foundAt, refusalOf}
+use Rattle.script.specs.Words.{wordKind, wordA, wordB, wordC, Packed}
+use Rattle.script.specs.Replies.{refusalOf}
 
--- the four columns that the structure reads
+-- what the structure reads of a node, by its number
 pub record Columns : Type 0 where
-  pub kinds : List ℕ
-  pub a : List ℕ
-  pub b : List ℕ
-  pub c : List ℕ
-
-abbrev pub columns : List ℕ → List ℕ → List ℕ → List ℕ → Columns
-columns k a b c = record { kinds = k; a = a; b = b; c = c }
+  pub kinds : ℕ → ℕ
+  pub a : ℕ → ℕ
+  pub b : ℕ → ℕ
+  pub c : ℕ → ℕ
 
 abbrev pub columnsOf : Tables → Columns
-columnsOf x = columns (x .kinds) (x .a) (x .b) (x .c)
+columnsOf x =
+    record {
+      kinds = λ i. getD (x .kinds) i 0;
+      a = λ i. getD (x .a) i 0;
+      b = λ i. getD (x .b) i 0;
+      c = λ i. getD (x .c) i 0;
+    }
+
+-- of nodes in words; the fields of a constant's word are parts of its value, and have no use
+abbrev pub columnsIn : List ℕ → Columns
+columnsIn ws =
+    record {
+      kinds = λ i. wordKind (getD ws i 0);
+      a = λ i. wordA (getD ws i 0);
+      b = λ i. wordB (getD ws i 0);
+      c = λ i. wordC (getD ws i 0);
+    }
 
 -- the use of a field of node i
 unfoldable pub useAt : Columns → ℕ → ℕ → Use
-useAt x i f = useOf (getD (x .kinds) i 0) f
+useAt x i f = useOf (x .kinds i) f
 
 abbrev pub isChild : Use → Bool
 isChild Nothing = false
@@ -53,8 +65,16 @@ keptIf false f fs = fs
 -- the children of node i
 unfoldable pub childrenAt : Columns → ℕ → List ℕ
 childrenAt x i =
-    keptIf (isChild (useAt x i 0)) (getD (x .a) i 0)
-    (keptIf (isChild (useAt x i 1)) (getD (x .b) i 0) (keptIf (isChild (useAt x i 2)) (getD (x .c) i 0) []))
+    keptIf (isChild (useAt x i 0)) (x .a i)
+    (keptIf (isChild (useAt x i 1)) (x .b i) (keptIf (isChild (useAt x i 2)) (x .c i) []))
+
+-- the fields that are children by the table's row of kind k
+abbrev pub rowChildren : ℕ → ℕ → ℕ → ℕ → List ℕ
+rowChildren k a b c = keptIf (isChild (useOf k 0)) a (keptIf (isChild (useOf k 1)) b (keptIf (isChild (useOf k 2)) c []))
+
+-- the children of a node in a word
+unfoldable pub wordChildren : ℕ → List ℕ
+wordChildren w = rowChildren (wordKind w) (wordA w) (wordB w) (wordC w)
 
 -- at how many places the first n nodes have j as a child
 unfoldable pub usesBelow : Columns → ℕ → ℕ → ℕ
@@ -88,11 +108,10 @@ tooHighStep x self i = lowest (firstBy (leb (heightAt x i) maxHeight) i none) (g
 unfoldable pub tooHighAt : Columns → ℕ → Option ℕ
 tooHighAt x = falling none (tooHighStep x)
 
--- what a walk measures: a height, the lowest node that is too high, and a bound of the height
-pub record Measured (h : ℕ) (f : Found) (height : ℕ) (tooHigh : Option ℕ) (most : ℕ) : Type 0 where
-  pub exact : h ≡ height
-  pub place : foundAt f ≡ tooHigh
-  pub small : h ≤ most
+-- what a walk of heights answers in one number: a height within the limit, or 257 plus the lowest node that is too high
+pub data Tall : ℕ → ℕ → Option ℕ → Type 0 where
+  low : {h : ℕ} → h ≤ maxHeight → Tall h h none
+  high : {r h j : ℕ} → r ≡ 257 + j → maxHeight < h → j < 65536 → Tall r h (some j)
 
 abbrev pub isName : Use → Bool
 isName Nothing = false
@@ -110,6 +129,17 @@ isBinder Child = false
 isBinder ParameterType = false
 isBinder Operation = false
 
+-- the answers of two walks in one, and a node over the answer of its children
+pub record TallJoin (p q r : ℕ) : Type 0 where
+  pub joined : (h g : ℕ) (t u : Option ℕ) → Tall p h t → Tall q g u → Tall r (max h g) (lowest t u)
+
+pub record TallNode (i p r : ℕ) : Type 0 where
+  pub over : (h : ℕ) (t : Option ℕ) → Tall p h t → Tall r (suc h) (lowest (firstBy (leb (suc h) maxHeight) i none) t)
+
+-- what a walk of heights answers of some children of node i
+abbrev pub TallOver : Columns → ℕ → List ℕ → ℕ → Type 0
+TallOver x i ms r = Tall r (gathered max 0 (below i 1 (heightAt x)) ms) (gathered lowest none (below i none (tooHighAt x)) ms)
+
 -- node i, if it is a variable that is no input and not among the names
 unfoldable pub unboundName : Bool → ℕ → List ℕ → ℕ → ℕ → Option ℕ
 unboundName true n xs x i = unlessBound (ltb x n || member x xs) i
@@ -118,10 +148,10 @@ unboundName false n xs x i = none
 -- the lowest unbound variable under a node, given the names around its children; names stand in field a
 unfoldable pub unboundUnder : Columns → ℕ → (ℕ → List ℕ → Option ℕ) → ℕ → List ℕ → Option ℕ
 unboundUnder x n self i xs =
-    lowest (unboundName (isName (useAt x i 0)) n xs (getD (x .a) i 0) i) (gathered lowest none (λ m. self m xs) (childrenAt x i))
+    lowest (unboundName (isName (useAt x i 0)) n xs (x .a i) i) (gathered lowest none (λ m. self m xs) (childrenAt x i))
 
 unfoldable pub unboundStep : Columns → ℕ → (ℕ → List ℕ → Option ℕ) → ℕ → List ℕ → Option ℕ
-unboundStep x n self i xs = unboundUnder x n self i (keptIf (isBinder (useAt x i 0)) (getD (x .a) i 0) xs)
+unboundStep x n self i xs = unboundUnder x n self i (keptIf (isBinder (useAt x i 0)) (x .a i) xs)
 
 unfoldable pub unboundAt : Columns → ℕ → ℕ → List ℕ → Option ℕ
 unboundAt x n = falling (λ xs. none) (unboundStep x n)
@@ -133,23 +163,21 @@ innermost s (suc d) = getD s d 0 ∷ innermost s d
 
 -- the first d names are as they were
 pub record Kept (d : ℕ) (before after : List ℕ) : Type 0 where
+  pub same : length after ≡ length before
   pub names : (k : ℕ) → k < d → getD after k 0 ≡ getD before k 0
 
--- the names after a binder, if there is one
-pub record Bound (b : Bool) (x d : ℕ) (before after : List ℕ) (r : ℕ) : Type 0 where
-  pub kept : Kept d before after
-  pub names : innermost after r ≡ keptIf b x (innermost before d)
-  pub least : d ≤ r
-  pub most : r ≤ d + 1
+-- a place in one number: 65535 is none
+pub data Place : ℕ → Option ℕ → Type 0 where
+  nowhere : {r : ℕ} → r ≡ 65535 → Place r none
+  node : {j : ℕ} → j < 65535 → Place j (some j)
 
 -- what a walk finds, and that it leaves the names around it
-pub record Scoped (place : Option ℕ) (d : ℕ) (before after : List ℕ) (r : Found) : Type 0 where
-  pub found : foundAt r ≡ place
+pub record Scoped (place : Option ℕ) (d : ℕ) (before after : List ℕ) (r : ℕ) : Type 0 where
+  pub found : Place r place
   pub kept : Kept d before after
 
--- The structure check's answer, whatever the other columns hold: refusals 6 to 8 of the script, if every node fits.
-pub record Structured (k a b c : List ℕ) (i n : ℕ) (r : Verdict) : Type 0 where
+-- The structure check's answer of nodes in words: refusals 6 to 8 of a script whose nodes they are, if every node fits.
+pub record Structured (ws : List ℕ) (i n : ℕ) (r : Verdict) : Type 0 where
   pub refusal :
-      (t : ℕ) (p q is : List ℕ) (v : List ℤ) → 1 ≤ n → n ≤ maxNodes
-      → ((j : ℕ) → j < n → nodeFits t i (rowNode (record { parameters = p; results = q; inputs = is; kinds = k; a = a; b = b; c = c; values = v })) j ≡ true)
-      → refusalOf r ≡ structureRefusal (tablesScript t i n (record { parameters = p; results = q; inputs = is; kinds = k; a = a; b = b; c = c; values = v }))
+      (t : ℕ) (x : Tables) → 1 ≤ n → n ≤ maxNodes → Packed n (rowNode x) ws
+      → ((j : ℕ) → j < n → nodeFits t i (rowNode x) j ≡ true) → refusalOf r ≡ structureRefusal (tablesScript t i n x)

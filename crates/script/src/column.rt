@@ -53,3 +53,11 @@ pub fn put32(s: &mut [i32], i: usize, v: i32)
         s[i] = v;
     }
 }
+
+pub fn put64(s: &mut [u64], i: usize, v: u64)
+    ensures { λ r. ⌜ now (s .exit) ≡ set (now (s .entry)) i v ⌝ }
+{
+    if i < s.len() {
+        s[i] = v;
+    }
+}

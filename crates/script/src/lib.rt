@@ -3,6 +3,7 @@ pub mod column;
 pub mod kinds;
 pub mod limits;
 pub mod structure;
+pub mod word;
 
 // A node's number, a name and a type's number have 16 bits each, and a place that wants one never takes another.
 pub struct NodeNumber(pub u16);

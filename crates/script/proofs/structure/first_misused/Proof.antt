@@ -13,7 +13,16 @@ returns : tie.Need-returns
 unfolding usedOnceAt maxNodes
 returns c =
     c .first-not-one .ensures
-    ∙ first-same _ _ 0 _ (λ j l. counted-once _ 4096 _ (c .before .before .before .count-nodes .ensures) j (omega arith))
+    ∙ first-same _ _ 0 _ (λ j l. counted-once _ 4096 _ (c .before .before .before .count-nodes .ensures) j (omega (arith, c .before .before .before .before .before .pre)))
 
 pub first-misused-spec : {M : Type 1} → statement M
-first-misused-spec = tie.close (tie.spec (λ c. search needs) (λ c κs. search needs) (λ c. search needs) (λ c. search needs) (λ c κs. search needs) returns)
+first-misused-spec =
+    tie.close
+    (tie.spec
+    (λ c. search needs)
+    (λ c κs. tt)
+    (λ c. search needs)
+    (λ c. search needs)
+    (λ c. search needs)
+    (λ c κs. tt)
+    returns)

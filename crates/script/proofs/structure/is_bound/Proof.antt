@@ -1,35 +1,41 @@
--- `script::structure::is_bound` meets its contract. The invariant: the name is none of those passed, the innermost ones.
--- Assumes nothing.
+-- `script::structure::is_bound` meets its contract. The invariant: whether the name is among the first d is known. Assumes nothing.
 use borrow.Author.Needs.{needs}
-use borrow.Author.Tests.{eq-eqb, ne-eqb}
+use Prim.Native.Nat.{_≤_, _-_}
+use mathlib.Core.Path.{_≡_, refl, sym}
+use mathlib.Core.Logic.{⊎-elim}
 use native.Mathlib.Omega.{arith}
-use mathlib.Core.Path.{_≡_, refl, sym, _∙_}
+use Rattle.lambdamix.specs.Limits.{maxHeight}
 use Rattle.lambdamix.specs.Structure.{member}
 use Rattle.script.specs.Walks.{innermost}
-use Rattle.script.proofs.Scopes.{innermost-last}
+use Rattle.script.proofs.Scopes.{found-here, found-before}
 use Rattle.script.proofs.structure.is_bound.Statement.{statement}
 use Rattle.script.proofs.structure.is_bound.Tie as tie
 
 abbrev Inv-loop : tie.InvT-loop
-Inv-loop names depth x d₀ d = member (x .0) (innermost names depth) ≡ member (x .0) (innermost names d)
+Inv-loop names depth x found₀ d₀ found d = (d ≤ depth) × (found ≡ member x (innermost names d))
 
 abbrev μ-loop : tie.MeasureT-loop
-μ-loop names depth x d₀ d = d
+μ-loop names depth x found₀ d₀ found d = depth - d
 
 loop-holds : tie.Need-loop-holds Inv-loop μ-loop
-loop-holds c = refl
+unfolding member innermost
+loop-holds c = (omega arith, refl)
 
-returns : tie.Need-returns Inv-loop μ-loop
-unfolding member
-returns c = sym (c .before .before .before .before .loop .inv ∙ rw (innermost-last (c .before .before .before .before .before .before .args .names .now) (c .before .before .before .before .loop .d) (c .before .before .before .loop-test .taken), eq-eqb _ _ (sym (c .before .before .at16 .ensures) ∙ c .if1 .taken)))
+mul-if1 : tie.Need-mul-if1 Inv-loop μ-loop
+unfolding maxHeight
+mul-if1 c = search needs
+
+element-copy-out-if1 : tie.Need-element-copy-out-if1 Inv-loop μ-loop
+unfolding maxHeight
+element-copy-out-if1 c = search needs
 
 loop-again : tie.Need-loop-again Inv-loop μ-loop
-unfolding member
-loop-again c = c .before .before .before .before .loop .inv ∙ rw (innermost-last (c .before .before .before .before .before .before .args .names .now) (c .before .before .before .before .loop .d) (c .before .before .before .loop-test .taken), ne-eqb _ _ (λ e. c .if1 .left (c .before .before .at16 .ensures ∙ e)))
+loop-again c =
+    (omega arith, ⊎-elim (λ s. found-here _ _ _ (c .before .before .before .loop .inv .1) (s .0 .taken) (s .1)) (λ s. found-before _ _ _ (c .before .before .before .loop .inv .1) (s .0 .left) (s .1)) (c .if1 .came))
 
-returns-2 : tie.Need-returns-2 Inv-loop μ-loop
-unfolding member innermost
-returns-2 c = let e : c .before .loop .d ≡ 0 = omega arith in sym (c .before .loop .inv ∙ rw e)
+returns : tie.Need-returns Inv-loop μ-loop
+returns c = let e : c .before .loop .d ≡ c .before .before .args .depth = omega arith in rw (sym e) (c .before .loop .inv .1)
 
 pub is-bound-spec : {M : Type 1} → statement M
-is-bound-spec = tie.close (tie.spec Inv-loop μ-loop loop-holds (λ c. search needs) (λ c κs. search needs) returns (λ c. search needs) (λ c. search needs) loop-again returns-2)
+is-bound-spec =
+    tie.close (tie.spec Inv-loop μ-loop loop-holds mul-if1 element-copy-out-if1 (λ c. search needs) (λ c. search needs) loop-again returns)

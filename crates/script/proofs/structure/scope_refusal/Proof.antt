@@ -1,25 +1,27 @@
--- `script::structure::scope_refusal` meets its contract. Assumes nothing.
+-- `script::structure::scope_refusal` meets its contract: the walk begins with no name. Assumes nothing.
 use borrow.Author.Needs.{needs}
-use mathlib.Core.Path.{sym}
+use Prim.Native.Nat.{ℕ}
 use native.Mathlib.Omega.{arith}
+use lib.ListN.{length-replicate}
 use Rattle.lambdamix.specs.Limits.{maxHeight}
 use Rattle.lambdamix.specs.Structure.{refusedAt}
-use Rattle.script.specs.Replies.{foundAt, refusalOf}
+use Rattle.script.specs.Replies.{refusalOf}
 use Rattle.script.specs.Walks.{innermost}
+use Rattle.script.proofs.Scopes.{place-none, place-some}
 use Rattle.script.proofs.structure.scope_refusal.Statement.{statement}
 use Rattle.script.proofs.structure.scope_refusal.Tie as tie
 
-scope-node-requires : tie.Need-scope-node-requires
+scope-requires : tie.Need-scope-requires
 unfolding maxHeight
-scope-node-requires c κs = omega (arith, c .before .before .before .before .before .pre)
+scope-requires c κs = ((c .before .pre .0, omega (arith, length-replicate {A = ℕ} 256 0)), omega (arith, c .before .pre .1))
 
 returns : tie.Need-returns
-unfolding innermost foundAt refusalOf refusedAt
-returns c = rw (sym (c .before .before .before .scope-node .ensures .found), c .enum-told .given .1)
+unfolding innermost refusalOf refusedAt
+returns c = rw (place-none (c .before .scope .ensures .found) (c .if1 .taken))
 
 returns-2 : tie.Need-returns-2
-unfolding innermost foundAt refusalOf refusedAt
-returns-2 c = rw (sym (c .before .before .before .before .scope-node .ensures .found), c .before .place .given .1)
+unfolding innermost refusalOf refusedAt
+returns-2 c = rw (place-some (c .before .scope .ensures .found) (c .if1 .left))
 
 pub scope-refusal-spec : {M : Type 1} → statement M
-scope-refusal-spec = tie.close (tie.spec (λ c. search needs) scope-node-requires (λ c. search needs) (λ c. search needs) returns returns-2)
+scope-refusal-spec = tie.close (tie.spec scope-requires returns (λ c. search needs) returns-2)

@@ -1,0 +1,125 @@
+-- What is packed into a word comes out of it again: a signed number's bits, and a node. Assumes nothing.
+use Prim.Native.Nat.{ℕ, _+_, _-_, _%_, _<_, _≤_}
+use mathlib.Core.Path.{_≡_, refl, sym, ap, _∙_, subst}
+use mathlib.Core.Bool.{Bool, true, false}
+use mathlib.Core.List.{List}
+use native.Mathlib.Omega.{arith}
+use lib.IntN.{ℤ, pos, negsuc}
+use lib.Signed.{mag}
+use lib.ListN.{length, getD, set, length-set}
+use lib.Seq.{getD-set-same, getD-set-other}
+use borrow.Author.Tests.{lt-ltb, le-ltb, ltb-true, ltb-false, eqb-true, eqb-false}
+use lib.Dec.{ltb, eqb}
+use Rattle.lambdamix.specs.Script.{Node}
+use Rattle.script.specs.Bytes.{signed32, signedBy, bits32}
+use Rattle.script.specs.Columns.{nodeOf}
+use Rattle.script.specs.Words.{word, wordKind, wordA, wordB, wordC, wordValue, Holds, Packed, Packs}
+
+-- a signed number of 32 bits
+abbrev pub Fits32 : ℤ → Type 0
+Fits32 z = mag z < 2147483648
+
+pub bits-small : (z : ℤ) → Fits32 z → bits32 z < 4294967296
+unfolding bits32
+bits-small (pos n) h = omega arith
+bits-small (negsuc n) h = omega arith
+
+pub signed-bits : (z : ℤ) → Fits32 z → signed32 (bits32 z) ≡ z
+unfolding signed32 bits32 signedBy
+signed-bits (pos n) h = rw (lt-ltb n 2147483648 h)
+signed-bits (negsuc n) h = rw (le-ltb (4294967295 - n) 2147483648 (omega arith)) (ap negsuc (omega arith))
+
+-- ---- the word of a node
+
+module _ (k a b c : ℕ) (ha : a < 65536) (hb : b < 65536) (hc : c < 65536) where
+  pub kind-word : wordKind (word k a b c) ≡ k
+  unfolding wordKind word
+  kind-word = omega arith
+
+  pub a-word : wordA (word k a b c) ≡ a
+  unfolding wordA word
+  a-word = omega arith
+
+  pub b-word : wordB (word k a b c) ≡ b
+  unfolding wordB word
+  b-word = omega arith
+
+  pub c-word : wordC (word k a b c) ≡ c
+  unfolding wordC word
+  c-word = omega arith
+
+pub kind-bits : (z : ℤ) → Fits32 z → wordKind (bits32 z) ≡ 0
+unfolding wordKind
+kind-bits z f = omega (arith, bits-small z f)
+
+pub value-bits : (z : ℤ) → Fits32 z → wordValue (bits32 z) ≡ z
+unfolding wordValue
+value-bits z f = let e : bits32 z % 4294967296 ≡ bits32 z = omega (arith, bits-small z f) in ap signed32 e ∙ signed-bits z f
+
+-- the value of any word has 32 bits
+pub value-fits : (w : ℕ) → Fits32 (wordValue w)
+unfolding wordValue signed32 signedBy
+value-fits w = by (ltb (w % 4294967296) 2147483648) refl
+  where
+    by : (b : Bool) → ltb (w % 4294967296) 2147483648 ≡ b → Fits32 (signedBy b (w % 4294967296))
+    by true e = ltb-true (w % 4294967296) 2147483648 e
+    by false e = let h = ltb-false (w % 4294967296) 2147483648 e in omega arith
+
+pub holds-constant : {w k a b c : ℕ} {v : ℤ} → Fits32 v → w ≡ bits32 v → k ≡ 0 → Holds w (nodeOf k a b c v)
+holds-constant {v} f e z =
+    record {
+      kind = ap wordKind e ∙ kind-bits v f ∙ sym z;
+      a = λ n. absurd (n z);
+      b = λ n. absurd (n z);
+      c = λ n. absurd (n z);
+      value = λ n. ap wordValue e ∙ value-bits v f;
+    }
+
+pub holds-step :
+    {w k a b c : ℕ} {v : ℤ} → w ≡ word k a b c → a < 65536 → b < 65536 → c < 65536 → (k ≡ 0 → ⊥) →
+    Holds w (nodeOf k a b c v)
+holds-step {k} {a} {b} {c} e ha hb hc n =
+    record {
+      kind = ap wordKind e ∙ kind-word k a b c ha hb hc;
+      a = λ m. ap wordA e ∙ a-word k a b c ha hb hc;
+      b = λ m. ap wordB e ∙ b-word k a b c ha hb hc;
+      c = λ m. ap wordC e ∙ c-word k a b c ha hb hc;
+      value = λ m. absurd (n m);
+    }
+
+pub holds-row :
+    {w k k′ a a′ b b′ c c′ : ℕ} {v v′ : ℤ} → Holds w (nodeOf k a b c v) → k ≡ k′ → a ≡ a′ → b ≡ b′ → c ≡ c′ → v ≡ v′ →
+    Holds w (nodeOf k′ a′ b′ c′ v′)
+holds-row h pk pa pb pc pv = rw (← pk, ← pa, ← pb, ← pc, ← pv) h
+
+-- ---- packing, node by node
+
+-- the first j words hold their nodes, as far as there are words
+pub record Packing (j : ℕ) (nodes : ℕ → Node) (before ws : List ℕ) : Type 0 where
+  pub same : length ws ≡ length before
+  pub held : (i : ℕ) → i < j → i < length ws → Holds (getD ws i 0) (nodes i)
+
+pub packing-begins : (nodes : ℕ → Node) (ws : List ℕ) → Packing 0 nodes ws ws
+packing-begins nodes ws = record { same = refl; held = λ i h l. absurd (omega arith) }
+
+pub packing-goes-on :
+    {j w : ℕ} {nodes : ℕ → Node} {before ws after : List ℕ} → Packing j nodes before ws → Holds w (nodes j) →
+    after ≡ set ws j w → Packing (j + 1) nodes before after
+packing-goes-on {j} {w} {nodes} {before} {ws} p h e =
+    rw e (record { same = length-set ws j w ∙ p .same; held = go })
+  where
+    go : (i : ℕ) → i < j + 1 → i < length (set ws j w) → Holds (getD (set ws j w) i 0) (nodes i)
+    go i m k = by (eqb i j) refl (subst (λ (n : ℕ). i < n) (length-set ws j w) k)
+      where
+        by : (b : Bool) → eqb i j ≡ b → i < length ws → Holds (getD (set ws j w) i 0) (nodes i)
+        by true q g =
+            let r = eqb-true i j q in
+            rw (r, getD-set-same ws j w 0 (subst (λ (n : ℕ). n < length ws) r g)) h
+        by false q g =
+            let r = eqb-false i j q in
+            rw (getD-set-other ws j i w 0 r) (p .held i (omega arith) g)
+
+pub packing-ends :
+    {j n : ℕ} {nodes : ℕ → Node} {before ws : List ℕ} → Packing j nodes before ws → n ≤ j → Packs n nodes before ws
+packing-ends p l =
+    record { same = p .same; packed = λ m. record { each = λ i h. p .held i (omega arith) (omega (arith, p .same)) } }
