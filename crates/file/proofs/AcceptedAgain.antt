@@ -148,17 +148,18 @@ module _ (bs : List ℕ) (bytes : AllBytes bs) (h : AcceptedFile bs) where
   pub accepted : Accepted (scriptIn bs)
   accepted = script-accepted (scriptIn bs) script-passes (h .annotated)
 
-  values-fit : (i : ℕ) → Fits (nodeAt (scriptIn bs) i .value)
-  unfolding nodeAt
-  values-fit i = ⊎-elim inside outside (holds-or-fails (ltb i (length (scriptIn bs .nodes))))
-    where
-      inside : ltb i (length (scriptIn bs .nodes)) ≡ true → Fits (nodeAt (scriptIn bs) i .value)
-      inside e = record { within = read-fits bs bytes .nodes i (ltb-true _ _ e) .value }
+-- The values of a script that was read have 32 bits.
+pub values-fit : (bs : List ℕ) → AllBytes bs → (i : ℕ) → Fits (nodeAt (scriptIn bs) i .value)
+unfolding nodeAt
+values-fit bs bytes i = ⊎-elim inside outside (holds-or-fails (ltb i (length (scriptIn bs .nodes))))
+  where
+    inside : ltb i (length (scriptIn bs .nodes)) ≡ true → Fits (nodeAt (scriptIn bs) i .value)
+    inside e = record { within = read-fits bs bytes .nodes i (ltb-true _ _ e) .value }
 
-      outside : ltb i (length (scriptIn bs .nodes)) ≡ false → Fits (nodeAt (scriptIn bs) i .value)
-      outside e =
-          subst⁻¹ (λ (d : Node). Fits (d .value)) (List·getD-eq-default (scriptIn bs .nodes) blankNode (ltb-false _ _ e))
-          (record { within = omega arith })
+    outside : ltb i (length (scriptIn bs .nodes)) ≡ false → Fits (nodeAt (scriptIn bs) i .value)
+    outside e =
+        subst⁻¹ (λ (d : Node). Fits (d .value)) (List·getD-eq-default (scriptIn bs .nodes) blankNode (ltb-false _ _ e))
+        (record { within = omega arith })
 
 -- Demand 3, last part: "wherever it fits a file, the checker accepts that file again". The file of the code that making an
 -- accepted file leaves passes ALL of refusals 1 to 11, for settings of 32 bits and fuel within its limit.
@@ -167,4 +168,4 @@ pub accepted-again :
     fuel ≤ maxFuel → (c : Code) (k : ℕ) → specialized (scriptIn bs) zs fuel ≡ finished c k → fits c ≡ true →
     AcceptedFile (fileBytes (written (scriptIn bs) c))
 accepted-again bs bytes h zs settings fuel limit c k e f =
-    script-accepted-again (scriptIn bs) (script-passes bs bytes h) (h .annotated) (values-fit bs bytes h) zs settings fuel limit c k e f
+    script-accepted-again (scriptIn bs) (script-passes bs bytes h) (h .annotated) (values-fit bs bytes) zs settings fuel limit c k e f

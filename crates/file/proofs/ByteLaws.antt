@@ -6,12 +6,13 @@ use mathlib.Core.Bool.{Bool, true, false}
 use mathlib.Core.List.{List, [], _∷_, _++_}
 use native.Mathlib.Omega.{arith}
 use native.Mathlib.Decide.{decLt}
-use lib.IntN.{ℤ, pos, negsuc}
+use lib.IntN.{ℤ}
 use lib.Signed.{mag}
 use lib.ListN.{length, getD, length-append, List·getD-append}
 use lib.Seq.{getD-append-add, ext-getD}
 use lib.Dec.{ltb, lit<}
-use borrow.Author.Tests.{lt-ltb, le-ltb, ltb-true, ltb-false}
+use borrow.Author.Tests.{ltb-true, ltb-false}
+use Rattle.script.proofs.WordLaws.{bits-small, signed-bits}
 use Rattle.script.specs.Bytes.{byteAt, word16, word32, signedBy, signed32, bits32, bytes16, bytes32}
 use Rattle.file.specs.Encodable.{AllBytes}
 
@@ -99,11 +100,6 @@ word16-small all o = omega (arith, all .below o, all .below (o + 1))
 
 -- ---- signed numbers of 32 bits
 
-pub signed-bits : (z : ℤ) → mag z < 2147483648 → signed32 (bits32 z) ≡ z
-unfolding signed32 bits32 signedBy
-signed-bits (pos n) h = rw (lt-ltb n 2147483648 h)
-signed-bits (negsuc n) h = rw (le-ltb (4294967295 - n) 2147483648 (omega arith)) (ap negsuc (omega arith))
-
 -- the bits of the number that w stands for are w, and it is within the range
 signed-both : (w : ℕ) → w < 4294967296 → (bits32 (signed32 w) ≡ w) × (mag (signed32 w) < 2147483648)
 unfolding signed32 signedBy bits32
@@ -143,14 +139,9 @@ word32-small : {bs : List ℕ} → AllBytes bs → (o : ℕ) → word32 bs o < 4
 unfolding word32
 word32-small all o = omega (arith, word16-small all o, word16-small all (o + 2))
 
-small : (z : ℤ) → mag z < 2147483648 → bits32 z < 4294967296
-unfolding bits32
-small (pos n) h = omega arith
-small (negsuc n) h = omega arith
-
 -- the signed value at a place: read as written, written as read, and within the range
 pub value-at : {bs : List ℕ} {o : ℕ} {z : ℤ} → Stands bs o (bytes32 (bits32 z)) → mag z < 2147483648 → signed32 (word32 bs o) ≡ z
-value-at {bs} {o} {z} s h = ap signed32 (word32-at s (small z h)) ∙ signed-bits z h
+value-at {bs} {o} {z} s h = ap signed32 (word32-at s (bits-small z h)) ∙ signed-bits z h
 
 pub value-stands : {bs : List ℕ} → AllBytes bs → (o : ℕ) → Stands bs o (bytes32 (bits32 (signed32 (word32 bs o))))
 value-stands {bs} all o = rw (signed-both (word32 bs o) (word32-small all o) .0) (stands32 all o)

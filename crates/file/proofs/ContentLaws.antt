@@ -18,13 +18,13 @@ use Rattle.lambdamix.specs.declared.Use.the-variants.{Nothing}
 use Rattle.lambdamix.specs.Arithmetic.{eqZ}
 use Rattle.lambdamix.specs.Script.{FunctionType, Node, rows, rowOf, fields}
 use Rattle.lambdamix.specs.Limits.{maxTypes, maxInputs, maxNodes}
-use Rattle.lambdamix.specs.Structure.{firstFailing, orElse}
-use Rattle.lambdamix.proofs.Tests.{and-both, or-right}
+use Rattle.lambdamix.specs.Structure.{firstFailing, orElse, refusedUnless}
+use Rattle.lambdamix.proofs.Tests.{and-both}
 use Rattle.lambdamix.proofs.Signed.{held, same-bits}
 use Rattle.script.specs.Kinds.{useOf, usesTable}
 use Rattle.script.specs.Columns.{nodeOf, contentIn}
 use Rattle.script.specs.declared.Found.{Found}
-use Rattle.script.specs.Refusals.{fieldRight, fieldsRight, nodeFits, isNone, otherPair, typeFits, inputFits, countsRight, refusedUnless, refusedRecord, contentOf}
+use Rattle.script.specs.Refusals.{fieldRight, fieldsRight, nodeFits, isNone, otherPair, typeFits, inputFits, countsRight, refusedRecord, contentOf}
 use Rattle.script.specs.File.{typeOffset, inputOffset, nodeOffset}
 use Rattle.script.specs.Tables.{Tables, rowType, rowInput, rowNode}
 use Rattle.script.specs.Replies.{foundAt}
@@ -38,6 +38,10 @@ and-false : (b : Bool) → (b && false) ≡ false
 and-false true = refl
 and-false false = refl
 
+and-swap : (a b : Bool) → (a && b) ≡ (b && a)
+and-swap true b = sym (and-true b)
+and-swap false b = sym (and-false b)
+
 -- a test that passes at each entry passes at each place inside the table
 at-place : {A : Type 0} (p : A → Bool) (d : A) (xs : List A) → every p xs ≡ true → (k : ℕ) → k < length xs → p (getD xs k d) ≡ true
 unfolding every
@@ -49,58 +53,64 @@ three-uses : (k : ℕ) → k < 13 → length (getD usesTable k []) ≡ 3
 unfolding usesTable rows every
 three-uses k h = eqb-true _ 3 (at-place (λ (us : List Use). eqb (length us) 3) [] usesTable refl k h)
 
--- the tests of three fields, by the uses in their places
-by-three : (t n j : ℕ) (us : List Use) (a b c : ℕ) → length us ≡ 3
-    → fieldsRight t n j us (a ∷ b ∷ c ∷ [])
-    ≡ (fieldRight t n j (getD us 0 Nothing) a && (fieldRight t n j (getD us 1 Nothing) b && fieldRight t n j (getD us 2 Nothing) c))
-unfolding fieldsRight
-by-three t n j [] a b c e = let z : ⊥ = omega arith in absurd z
-by-three t n j (u ∷ []) a b c e = let z : ⊥ = omega arith in absurd z
-by-three t n j (u ∷ v ∷ []) a b c e = let z : ⊥ = omega arith in absurd z
-by-three t n j (u ∷ v ∷ w ∷ []) a b c e = rw (and-true (fieldRight t n j w c))
-by-three t n j (u ∷ v ∷ w ∷ x ∷ us) a b c e = let z : ⊥ = omega arith in absurd z
+by-three : (us : List Use) → length us ≡ 3 → (getD us 0 Nothing ∷ getD us 1 Nothing ∷ getD us 2 Nothing ∷ []) ≡ us
+by-three [] e = let z : ⊥ = omega arith in absurd z
+by-three (u ∷ []) e = let z : ⊥ = omega arith in absurd z
+by-three (u ∷ v ∷ []) e = let z : ⊥ = omega arith in absurd z
+by-three (u ∷ v ∷ w ∷ []) e = refl
+by-three (u ∷ v ∷ w ∷ x ∷ us) e = let z : ⊥ = omega arith in absurd z
 
--- A row's test is the tests of its three fields, as they were answered for the uses that the table told.
-pub row-test : (t n j k a b c : ℕ) → k < 13 → {u v w : Use} {x x′ y y′ z z′ : Bool}
-    → u ≡ useOf k 0 → x ≡ fieldRight t n j u a → x ≡ x′
-    → v ≡ useOf k 1 → y ≡ fieldRight t n j v b → y ≡ y′
-    → w ≡ useOf k 2 → z ≡ fieldRight t n j w c → z ≡ z′
-    → (x′ && (y′ && z′)) ≡ fieldsRight t n j (getD usesTable k []) (a ∷ b ∷ c ∷ [])
+-- the uses that the table told, field by field, are its row
+pub row-told : (k : ℕ) → k < 13 → {u v w : Use} → u ≡ useOf k 0 → v ≡ useOf k 1 → w ≡ useOf k 2
+    → (u ∷ v ∷ w ∷ []) ≡ getD usesTable k []
 unfolding useOf
-row-test t n j k a b c h p q r p₁ q₁ r₁ p₂ q₂ r₂ = cc (by-three t n j (getD usesTable k []) a b c (three-uses k h))
+row-told k h p q r = rw (p, q, r) (by-three (getD usesTable k []) (three-uses k h))
+
+-- A row's test is the tests of its three fields, as they were answered.
+pub row-test : (t n j : ℕ) (u v w : Use) (a b c : ℕ) {x x′ y y′ z z′ : Bool}
+    → x ≡ fieldRight t n j u a → x ≡ x′ → y ≡ fieldRight t n j v b → y ≡ y′ → z ≡ fieldRight t n j w c → z ≡ z′
+    → (x′ && (y′ && z′)) ≡ fieldsRight t n j (u ∷ v ∷ w ∷ []) (a ∷ b ∷ c ∷ [])
+unfolding fieldsRight
+row-test t n j u v w a b c p p′ q q′ r r′ = cc (and-true (fieldRight t n j w c))
 
 module _ (t n j k a b c : ℕ) where
   row-is : (v : ℤ) → fieldsRight t n j (rowOf (nodeOf k a b c v) .uses) (fields (nodeOf k a b c v)) ≡ fieldsRight t n j (getD usesTable k []) (a ∷ b ∷ c ∷ [])
   unfolding fields
   row-is v = ap (λ (us : List Use). fieldsRight t n j us (a ∷ b ∷ c ∷ [])) (row-uses (nodeOf k a b c v))
 
-  -- a step that may have its value is right if its fields are
-  pub right-by-fields : (v : ℤ) → k < 13 → (eqb k 0 || eqZ v (pos 0)) ≡ true
-      → fieldsRight t n j (getD usesTable k []) (a ∷ b ∷ c ∷ []) ≡ nodeFits t n (λ j. nodeOf k a b c v) j
+  by-own-row : (v : ℤ) → k < 13
+      → ((eqb k 0 || eqZ v (pos 0)) && fieldsRight t n j (getD usesTable k []) (a ∷ b ∷ c ∷ [])) ≡ nodeFits t n (λ j. nodeOf k a b c v) j
   unfolding nodeFits
-  right-by-fields v h e = simp (lt-ltb k 13 h, e, row-is v, and-true)
+  by-own-row v h = and-swap (eqb k 0 || eqZ v (pos 0)) (fieldsRight t n j (getD usesTable k []) (a ∷ b ∷ c ∷ [])) ∙ simp (lt-ltb k 13 h, row-is v)
 
-  pub wrong-value : (v : ℤ) → (eqb k 0 || eqZ v (pos 0)) ≡ false → false ≡ nodeFits t n (λ j. nodeOf k a b c v) j
-  unfolding nodeFits
-  wrong-value v e = simp (e, and-false)
+  same-row : (m : ℕ) → k ≡ m → {us : List Use} → us ≡ getD usesTable m [] → us ≡ getD usesTable k []
+  same-row m e r = r ∙ ap (λ (h : ℕ). getD usesTable h []) (sym e)
+
+  -- What holds by the row of kind m holds of a node whose kind is m; its value comes as it is read back from its bits.
+  pub of-kind : (m : ℕ) → 0 < m → m < 13 → k ≡ m → {us : List Use} → us ≡ getD usesTable m [] → {v : ℤ} → SFits w32 v
+      → (eqZ (held w32 v) (pos 0) && fieldsRight t n j us (a ∷ b ∷ c ∷ [])) ≡ nodeFits t n (λ j. nodeOf k a b c v) j
+  of-kind m l h e r {v} f = rw (toZ-ofZ f, same-row m e r) (rw (ne-eqb k 0 (λ p. omega arith)) at (by-own-row v (omega arith)))
+
+  pub of-constant : k ≡ 0 → {us : List Use} → us ≡ getD usesTable 0 [] → (v : ℤ)
+      → fieldsRight t n j us (a ∷ b ∷ c ∷ []) ≡ nodeFits t n (λ j. nodeOf k a b c v) j
+  of-constant e r v = rw (same-row 0 e r) (rw (eq-eqb k 0 e) at (by-own-row v (omega arith)))
+
+  pub held-value : {v : ℤ} → SFits w32 v → nodeFits t n (λ j. nodeOf k a b c (held w32 v)) j ≡ nodeFits t n (λ j. nodeOf k a b c v) j
+  held-value f = ap (λ (z : ℤ). nodeFits t n (λ j. nodeOf k a b c z) j) (toZ-ofZ f)
 
   pub wrong-kind : (v : ℤ) → 13 ≤ k → false ≡ nodeFits t n (λ j. nodeOf k a b c v) j
   unfolding nodeFits
   wrong-kind v h = simp (le-ltb k 13 h)
 
-  -- a value as it is read back from its bits
-  pub held-value : {v : ℤ} → SFits w32 v → nodeFits t n (λ j. nodeOf k a b c (held w32 v)) j ≡ nodeFits t n (λ j. nodeOf k a b c v) j
-  held-value f = ap (λ (z : ℤ). nodeFits t n (λ j. nodeOf k a b c z) j) (toZ-ofZ f)
-
 -- the test of a value by its bits
 zero-bits : {v : ℤ} → SFits w32 v → eqb (ofZ w32 v) 0 ≡ eqZ v (pos 0)
 zero-bits f = same-bits f (record { sfits = lit< tt })
 
-pub value-zero : (k : ℕ) {v : ℤ} → SFits w32 v → ofZ w32 v ≡ 0 → (eqb k 0 || eqZ v (pos 0)) ≡ true
-value-zero k {v} f e = or-right (eqb k 0) (sym (zero-bits f) ∙ eq-eqb _ _ e)
+pub value-zero : {v : ℤ} → SFits w32 v → ofZ w32 v ≡ 0 → eqZ v (pos 0) ≡ true
+value-zero f e = sym (zero-bits f) ∙ eq-eqb _ _ e
 
-pub value-other : (k : ℕ) {v : ℤ} → 0 < k → SFits w32 v → (ofZ w32 v ≡ 0 → ⊥) → (eqb k 0 || eqZ v (pos 0)) ≡ false
-value-other k h f e = simp (ne-eqb k 0 (λ p. omega arith), ← zero-bits f, ne-eqb _ 0 e)
+pub value-other : {v : ℤ} → SFits w32 v → (ofZ w32 v ≡ 0 → ⊥) → eqZ v (pos 0) ≡ false
+value-other f e = sym (zero-bits f) ∙ ne-eqb _ 0 e
 
 -- a node as a column's reads tell it
 pub node-read : (t n j : ℕ) (f : ℕ → Node) {k a b c : ℕ} {v : ℤ}

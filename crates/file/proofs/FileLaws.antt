@@ -12,10 +12,10 @@ use lib.Dec.{eqb}
 use borrow.Author.Tests.{le-leb, eq-eqb, eqb-true}
 use Rattle.lambdamix.specs.Script.{Script, nodeAt}
 use Rattle.lambdamix.specs.Text.{ascii}
-use Rattle.lambdamix.specs.Structure.{orElse, structureRefusal}
+use Rattle.lambdamix.specs.Structure.{orElse, structureRefusal, refusedUnless}
 use Rattle.script.specs.Bytes.{bytes16}
 use Rattle.script.specs.File.{headBytes, typeBytes, inputBytes, nodeBytes, records, fileBytes, typeOffset, inputOffset, nodeOffset, fileLength, headTypes, headInputs, headNodes, scriptIn}
-use Rattle.script.specs.Refusals.{refusedUnless, refusedRecord, countsRight, contentRefusal, scriptRefusal, headMarked, markRefusal, earlier, bodyRefusal, fileRefusal}
+use Rattle.script.specs.Refusals.{refusedRecord, countsRight, contentRefusal, scriptRefusal, headMarked, markRefusal, earlier, bodyRefusal, fileRefusal}
 use Rattle.file.specs.Encodable.{AllBytes, Encodable}
 use Rattle.file.proofs.ByteLaws.{Stands, stands-left, stands-right, stands-both, stands-self, stands-whole, word16-at, stands16, word16-small}
 use Rattle.script.proofs.RefusalLaws.{neither, no-earlier, not-refused, pass-over, no-record}

@@ -4,9 +4,10 @@ use mathlib.Core.List.{map}
 use lib.ListN.{length}
 use Rattle.lambdamix.specs.Trials.{Trial, trials, inputA}
 use Rattle.lambdamix.proofs.Computing.{computing}
+use Rattle.lambdamix.specs.Structure.{refusedUnless}
 use Rattle.script.specs.Bytes.{byteAt, word16, word32, signedBy, signed32, bits32, bytes16, bytes32}
 use Rattle.script.specs.File.{headBytes, typeBytes, inputBytes, nodeBytes, records, fileBytes, typeOffset, inputOffset, nodeOffset, fileLength, headTypes, headInputs, headNodes, numbered, typeFrom, inputFrom, nodeFrom, scriptIn}
-use Rattle.script.specs.Refusals.{refusedUnless, refusedRecord, countsRight, samePair, otherPair, isNone, typeFits, inputFits, fieldRight, fieldsRight, nodeFits, contentOf, contentRefusal, scriptRefusal, marked, markRefusal, earlierBy, earlier, bodyRefusal, fileRefusal}
+use Rattle.script.specs.Refusals.{refusedRecord, countsRight, samePair, otherPair, isNone, typeFits, inputFits, fieldRight, fieldsRight, nodeFits, contentOf, contentRefusal, scriptRefusal, marked, markRefusal, earlierBy, earlier, bodyRefusal, fileRefusal}
 use Rattle.file.specs.FileTrials.{shownOf, shownFrom, shownFromFile}
 
 -- one name that opens the definitions of files

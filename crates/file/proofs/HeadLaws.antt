@@ -6,10 +6,10 @@ use mathlib.Core.List.{List}
 use mathlib.Core.Option.{Option, none, some}
 use lib.ListN.{length}
 use lib.Dec.{leb, eqb}
-use Rattle.lambdamix.specs.Structure.{orElse}
+use Rattle.lambdamix.specs.Structure.{orElse, refusedUnless}
 use Rattle.script.specs.declared.Counts.{Counts}
 use Rattle.script.specs.File.{fileLength, nodeOffset, headTypes, headInputs, headNodes}
-use Rattle.script.specs.Refusals.{countsRight, headMarked, refusedUnless, bodyRefusal, fileRefusal}
+use Rattle.script.specs.Refusals.{countsRight, headMarked, bodyRefusal, fileRefusal}
 use Rattle.file.specs.Heads.{headCounts, headRefusal}
 
 regroup : {A : Type 0} (a b c d e : Option A)

@@ -1,5 +1,5 @@
 -- The refusals of a file from those of its parts, and the reader's reply and tables. Assumes nothing.
-use Prim.Native.Nat.{ℕ}
+use Prim.Native.Nat.{ℕ, _≤_}
 use mathlib.Core.Path.{_≡_, refl, sym, ap, _∙_}
 use mathlib.Core.Bool.{Bool, true, false, _&&_, true≢false}
 use mathlib.Core.List.{List}
@@ -9,7 +9,8 @@ use lib.IntN.{ℤ}
 use lib.ListN.{length}
 use lib.Dec.{leb}
 use Rattle.lambdamix.specs.Checker as Checker
-use Rattle.lambdamix.specs.Structure.{orElse}
+use Rattle.lambdamix.specs.Limits.{maxNodes}
+use Rattle.lambdamix.specs.Structure.{orElse, refusedUnless}
 use Rattle.script.specs.declared.Counts.{Counts}
 use Rattle.script.specs.declared.Refusal.{Refusal}
 use Rattle.script.specs.declared.Verdict.{Verdict}
@@ -17,10 +18,11 @@ use Rattle.script.specs.declared.Verdict.the-variants as Verdict
 use Rattle.script.specs.declared.Reading.{Reading}
 use Rattle.script.specs.declared.Reading.the-variants as Reading
 use Rattle.script.specs.File.{headTypes, headInputs, headNodes, scriptIn}
-use Rattle.script.specs.Refusals.{headMarked, countsRight, refusedUnless, contentOf, contentRefusal, markRefusal, earlier, earlierBy, bodyRefusal, fileRefusal}
+use Rattle.script.specs.Refusals.{headMarked, countsRight, contentOf, contentRefusal, markRefusal, earlier, earlierBy, bodyRefusal, fileRefusal}
 use Rattle.script.specs.Tables.{Tables, rowType, rowInput, rowNode, tablesScript, filled, longEnough, readRefusal, readTables}
 use Rattle.script.specs.Replies.{refusalOf, reading, Reads}
-use Rattle.script.specs.Columns.{tablesOf, contentIn, enough}
+use Rattle.script.specs.Columns.{tablesOf, nodesIn, contentIn, enough}
+use Rattle.script.specs.Words.{Packs}
 use Rattle.file.specs.Heads.{headCounts, headRefusal, recordsRefusal, FillFits, FilledWhere, isPassed, filledIf, replyBy}
 use Rattle.script.specs.Walks.{Structured}
 use Rattle.file.proofs.ContentLaws.{in-limits}
@@ -80,13 +82,14 @@ module _ (bs : List ℕ) (n : Counts) (ps rs is ks xs ys zs : List ℕ) (vs : Li
   records-refused h = rw (← marks, ← content, ← first, h)
 
   -- and where there is none by their structure.
-  pub records-by-structure : (r : Verdict) → v ≡ Verdict.Passed → Structured ks xs ys zs (n .inputs) (n .nodes) r
+  pub records-by-structure : (r : Verdict) → v ≡ Verdict.Passed → {before ws : List ℕ} → maxNodes ≤ length before
+      → Packs (n .nodes) (nodesIn ks xs ys zs vs) before ws → Structured ws (n .inputs) (n .nodes) r
       → refusalOf r ≡ recordsRefusal bs n (tablesOf ps rs is ks xs ys zs vs)
   unfolding recordsRefusal refusalOf orElse
-  records-by-structure r h meets =
+  records-by-structure r h l p meets =
       rw (← marks, ← content, ← first, h)
       (structure-after (n .types) (n .inputs) (n .nodes) ps rs is ks xs ys zs vs
-      (sym content ∙ earlier-none m k (sym first ∙ ap refusalOf h)) r meets)
+      (sym content ∙ earlier-none m k (sym first ∙ ap refusalOf h)) r l p meets)
 
 -- A file's body is refused as its records are in tables that were filled from it.
 pub body-by-records : (bs : List ℕ) {n : Counts} → n ≡ headCounts bs

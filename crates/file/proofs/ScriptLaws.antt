@@ -6,21 +6,24 @@ use mathlib.Core.Bool.{Bool, true, false, not}
 use mathlib.Core.List.{List}
 use mathlib.Core.Option.{Option, none, some}
 use lib.IntN.{ℤ}
+use lib.ListN.{length}
 use native.Mathlib.Omega.{arith}
 use Rattle.lambdamix.specs.Script.{FunctionType, Node, blankNode, nodeAt}
 use Rattle.lambdamix.specs.Types.{blankType}
 use Rattle.lambdamix.specs.Limits.{maxNodes}
-use Rattle.lambdamix.specs.Structure.{orElse, structureRefusal}
+use Rattle.lambdamix.specs.Structure.{orElse, structureRefusal, refusedUnless}
 use Rattle.lambdamix.specs.Checker.{Refusal}
 use Rattle.script.specs.File.{nodeOffset}
-use Rattle.script.specs.Refusals.{typeFits, inputFits, nodeFits, otherPair, samePair, refusedRecord, countsRight, refusedUnless, contentOf, contentRefusal, scriptRefusal}
+use Rattle.script.specs.Refusals.{typeFits, inputFits, nodeFits, otherPair, samePair, refusedRecord, countsRight, contentOf, contentRefusal, scriptRefusal}
 use Rattle.script.specs.Tables.{Tables, rowType, rowInput, rowNode, tablesScript}
-use Rattle.script.specs.Columns.{tablesOf, contentIn}
+use Rattle.script.specs.Columns.{tablesOf, nodesIn, contentIn}
+use Rattle.script.specs.Words.{Packed, Packs}
 use Rattle.script.specs.Walks.{Structured}
 use Rattle.script.specs.Replies.{refusalOf}
 use Rattle.script.specs.declared.Refusal as Refused
 use Rattle.script.specs.declared.Verdict.{Verdict}
 use Rattle.script.specs.declared.Verdict.the-variants as Verdict
+use Rattle.file.specs.PackedTables.{PackedTables}
 use Rattle.file.proofs.ContentLaws.{in-limits}
 use Rattle.file.proofs.Numbered.{length-numbered, row-at}
 use Rattle.file.proofs.Searching.{failing-same, all-pass}
@@ -112,22 +115,41 @@ module _ (t i n : ℕ) (ps rs is ks xs ys zs : List ℕ) (vs : List ℤ) where
   abbrev columns : Tables
   columns = tablesOf ps rs is ks xs ys zs vs
 
+  -- Contents that pass have no more nodes than there are words.
+  pub packed-after : contentIn t i n columns ≡ none → {before ws : List ℕ} → maxNodes ≤ length before
+      → Packs n (nodesIn ks xs ys zs vs) before ws → Packed n (rowNode columns) ws
+  unfolding maxNodes rowNode
+  packed-after e h p = p .packed (omega (arith, in-limits t i n (content-passes t i n columns e .0) .nodes))
+
   -- After the contents the check of structure gives 6, 7 and 8.
-  pub structure-after : contentIn t i n columns ≡ none → (r : Verdict) → Structured ks xs ys zs i n r
+  pub structure-after : contentIn t i n columns ≡ none → (r : Verdict) {before ws : List ℕ} → maxNodes ≤ length before
+      → Packs n (nodesIn ks xs ys zs vs) before ws → Structured ws i n r
       → refusalOf r ≡ structureRefusal (tablesScript t i n columns)
   unfolding maxNodes
-  structure-after e r m =
-      let p = content-passes t i n columns e in
-      let l = in-limits t i n (p .0) in
-      m .refusal t ps rs is vs (l .some-node) (l .nodes)
-      (nodes-right t i n (rowType columns) (rowInput columns) (rowNode columns) (p .1))
+  structure-after e r h p m =
+      let q = content-passes t i n columns e in
+      let l = in-limits t i n (q .0) in
+      m .refusal t columns (l .some-node) (l .nodes) (packed-after e h p)
+      (nodes-right t i n (rowType columns) (rowInput columns) (rowNode columns) (q .1))
 
   pub refused-by-content : {v : Verdict} {f : Refused.Refusal} → refusalOf v ≡ contentIn t i n columns → v ≡ Verdict.Refused f
       → refusalOf (Verdict.Refused f) ≡ scriptRefusal (tablesScript t i n columns)
   unfolding refusalOf orElse
   refused-by-content {v} {f} p q = rw (script-of-tables t i n columns, ← p, q)
 
-  pub refused-by-structure : (r : Verdict) {v : Verdict} → refusalOf v ≡ contentIn t i n columns → v ≡ Verdict.Passed
-      → Structured ks xs ys zs i n r → refusalOf r ≡ scriptRefusal (tablesScript t i n columns)
-  unfolding refusalOf orElse
-  refused-by-structure r p q m = rw (script-of-tables t i n columns, ← p, q) (structure-after (sym p ∙ ap refusalOf q) r m)
+  module _ {v : Verdict} (p : refusalOf v ≡ contentIn t i n columns) (q : v ≡ Verdict.Passed) {before ws : List ℕ}
+      (h : maxNodes ≤ length before) (k : Packs n (nodesIn ks xs ys zs vs) before ws) where
+    no-content : contentIn t i n columns ≡ none
+    unfolding refusalOf
+    no-content = sym p ∙ ap refusalOf q
+
+    pub refused-by-structure : (r : Verdict) → Structured ws i n r → refusalOf r ≡ scriptRefusal (tablesScript t i n columns)
+    unfolding refusalOf orElse
+    refused-by-structure r m = rw (script-of-tables t i n columns, ← p, q) (structure-after no-content r h k m)
+
+    pub packed-by-pack : (r : Verdict) → PackedTables r n columns before ws
+    packed-by-pack r = record { nodes = λ e l. packed-after no-content h k }
+
+-- a verdict that refuses says nothing of the words
+pub not-packed : {f : Refused.Refusal} {n : ℕ} {x : Tables} {before after : List ℕ} → PackedTables (Verdict.Refused f) n x before after
+not-packed = record { nodes = λ e h. let z : _≡_ {A = ℕ} 0 1 = cc in absurd (omega arith) }

@@ -10,7 +10,7 @@ use lib.Dec.{leb}
 use borrow.Author.Tests.{le-leb, lt-leb}
 use Rattle.lambdamix.specs.Script.{Script}
 use Rattle.lambdamix.specs.Text.{ascii}
-use Rattle.lambdamix.specs.Structure.{orElse}
+use Rattle.lambdamix.specs.Structure.{orElse, refusedUnless}
 use Rattle.script.specs.declared.Counts.{Counts}
 use Rattle.script.specs.declared.Refusal.{Refusal}
 use Rattle.script.specs.declared.Verdict.{Verdict}
@@ -19,7 +19,6 @@ use Rattle.script.specs.declared.Writing.{Writing}
 use Rattle.script.specs.declared.Writing.the-variants as Writing
 use Rattle.script.specs.Bytes.{bytes16}
 use Rattle.script.specs.File.{headBytes, typeBytes, inputBytes, nodeBytes, records, numbered, fileBytes, fileLength}
-use Rattle.script.specs.Refusals.{refusedUnless}
 use Rattle.script.specs.Tables.{Tables, rowType, rowInput, rowNode, tablesScript, tablesRefusal, writeRefusal, writtenOutput}
 use Rattle.script.specs.Replies.{refusalOf, writing, Writes}
 use Rattle.file.specs.Written.{Put, Fitted, shortOutput, headRow}

@@ -36,6 +36,19 @@ pub put-both :
 put-both {l} {k} {m} {vs} {ws} {i} p e q =
     record { puts = q .puts ∙ (λ x. sets (p .puts x) (e x) ws) ∙ sym (sets-append vs ws l i) }
 
+-- stores at distances from a place, as straight-line code makes them
+abbrev pub setsAt : List ℕ → ℕ → ℕ → List ℕ → List ℕ
+setsAt l i k [] = l
+setsAt l i k (v ∷ vs) = setsAt (set l (i + k) v) i (k + 1) vs
+
+sets-at : (vs l : List ℕ) (i k : ℕ) → setsAt l i k vs ≡ sets l (i + k) vs
+sets-at [] l i k = refl
+sets-at (v ∷ vs) l i k =
+    sets-at vs (set l (i + k) v) i (k + 1) ∙ ap (λ (n : ℕ). sets (set l (i + k) v) n vs) (omega arith)
+
+pub put-places : (v : ℕ) (vs l : List ℕ) (i : ℕ) → Put l i (v ∷ vs) (setsAt (set l i v) i 1 vs)
+put-places v vs l i = record { puts = sets-at vs (set l i v) i 1 ∙ ap (λ (n : ℕ). sets (set l i v) n vs) (add-one i) }
+
 -- from the first place on, with room for all
 pub put-over : {vs l m : List ℕ} → Put l 0 vs m → length vs ≤ length l → m ≡ over vs l
 unfolding over

@@ -8,7 +8,7 @@ use mathlib.Core.Option.{Option}
 use lib.ListN.{length}
 use lib.Dec.{leb, eqb}
 use Rattle.lambdamix.specs.Checker.{Refusal}
-use Rattle.lambdamix.specs.Structure.{orElse, structureRefusal}
+use Rattle.lambdamix.specs.Structure.{orElse, structureRefusal, refusedUnless}
 use Rattle.script.specs.declared.Counts.{Counts}
 use Rattle.script.specs.declared.Verdict.{Verdict}
 use Rattle.script.specs.declared.Verdict.the-variants as Verdict
@@ -17,7 +17,7 @@ use Rattle.script.specs.declared.Reading.the-variants as Reading
 use Rattle.script.specs.File.{fileLength, headTypes, headInputs, headNodes, scriptIn}
 use Rattle.script.specs.Tables.{Tables, tablesScript, filled, longEnough}
 use Rattle.script.specs.Columns.{contentIn}
-use Rattle.script.specs.Refusals.{refusedUnless, headMarked, countsRight, markRefusal, earlier}
+use Rattle.script.specs.Refusals.{headMarked, countsRight, markRefusal, earlier}
 
 unfoldable pub headCounts : List ℕ → Counts
 headCounts bs = record { types = headTypes bs; inputs = headInputs bs; nodes = headNodes bs }

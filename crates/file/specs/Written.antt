@@ -2,7 +2,7 @@
 -- output. Assumes nothing.
 use Prim.Native.Nat.{ℕ}
 use mathlib.Core.Path.{_≡_}
-use mathlib.Core.List.{List, _++_}
+use mathlib.Core.List.{List, _∷_, _++_}
 use mathlib.Core.Option.{Option}
 use lib.IntN.{ℤ, pos}
 use lib.ListN.{length, getD}
@@ -11,10 +11,10 @@ use lib.Dec.{leb}
 use Rattle.lambdamix.specs.Script.{Script, FunctionType, Node}
 use Rattle.lambdamix.specs.Text.{ascii}
 use Rattle.lambdamix.specs.Checker.{Refusal}
+use Rattle.lambdamix.specs.Structure.{refusedUnless}
 use Rattle.script.specs.declared.Writing.{Writing}
-use Rattle.script.specs.Bytes.{bytes16}
+use Rattle.script.specs.Bytes.{bytes16, bytes32}
 use Rattle.script.specs.File.{fileBytes}
-use Rattle.script.specs.Refusals.{refusedUnless}
 use Rattle.script.specs.Tables.{writtenOutput}
 use Rattle.script.specs.Replies.{writing}
 
@@ -31,6 +31,10 @@ inputRow inputs j = getD inputs j 0
 unfoldable pub nodeRow : List ℕ → List ℕ → List ℕ → List ℕ → List ℤ → ℕ → Node
 nodeRow kinds a b c values j =
     record { kind = getD kinds j 0; a = getD a j 0; b = getD b j 0; c = getD c j 0; value = getD values j (pos 0) }
+
+-- a node's record for its kind, its fields and its value's bits
+unfoldable pub nodeParts : ℕ → ℕ → ℕ → ℕ → ℕ → List ℕ
+nodeParts k a b c w = ascii "ND" ++ (k ∷ (bytes16 a ++ (bytes16 b ++ (bytes16 c ++ bytes32 w))))
 
 -- after is before with bytes from place i on; past the end nothing is put
 pub record Put (before : List ℕ) (i : ℕ) (bs : List ℕ) (after : List ℕ) : Type 0 where

@@ -1,5 +1,6 @@
 // Little-endian numbers read from bytes; past the end a byte is 0.
 use script::column::at8;
+use script::word::signed;
 ghost use mathlib.Core.Path.{_≡_};
 ghost use Rattle.script.specs.Bytes.{word16, word32, signed32};
 
@@ -37,18 +38,8 @@ fn word32(s: &[u8], i: usize) -> u32
     0
 }
 
-fn signed32(w: u32) -> i32
-    ensures { λ r. ⌜ r ≡ signed32 w ⌝ }
-{
-    if w < 2147483648 {
-        w as i32
-    } else {
-        -1 - ((4294967295 - w) as i32)
-    }
-}
-
 pub fn value32(s: &[u8], i: usize) -> i32
     ensures { λ r. ⌜ r ≡ signed32 (word32 (now (s .entry)) i) ⌝ }
 {
-    signed32(word32(s, i))
+    signed(word32(s, i))
 }

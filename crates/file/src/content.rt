@@ -10,9 +10,12 @@ use script::column::at32;
 use script::kinds::use_of;
 use script::limits::counts_right;
 ghost use mathlib.Core.Path.{_≡_};
-ghost use Prim.Native.Nat.{_<_};
+ghost use Prim.Native.Nat.{_<_, _≤_};
+ghost use mathlib.Core.Bool.{_&&_};
 ghost use mathlib.Core.List.{[], _∷_};
+ghost use lib.IntN.{pos};
 ghost use lib.ListN.{getD};
+ghost use Rattle.lambdamix.specs.Arithmetic.{eqZ};
 ghost use Rattle.lambdamix.specs.Structure.{firstFailing};
 ghost use Rattle.script.specs.Refusals.{otherPair, typeFits, inputFits, fieldRight, fieldsRight, nodeFits};
 ghost use Rattle.script.specs.Replies.{foundAt, refusalOf};
@@ -41,14 +44,27 @@ fn field_right(types: usize, inputs: usize, node: usize, u: Use, f: u16) -> bool
     }
 }
 
-// Whether the fields of a node hold what the table's row asks for.
-fn fields_right(types: usize, inputs: usize, node: usize, kind: u8, a: u16, b: u16, c: u16) -> bool
-    requires { ⌜ (types < 65536) × (kind < 13) ⌝ }
-    ensures { λ r. ⌜ r ≡ fieldsRight types inputs node (getD usesTable kind []) (a ∷ b ∷ c ∷ []) ⌝ }
+// A row of the table: the uses of the fields a, b and c.
+struct Row(Use, Use, Use);
+
+fn row_of(kind: u8) -> Row
+    requires { ⌜ kind < 13 ⌝ }
+    ensures { λ r. ⌜ (r .0 ∷ r .1 ∷ r .2 ∷ []) ≡ getD usesTable kind [] ⌝ }
 {
-    if field_right(types, inputs, node, use_of(kind, 0), a) {
-        if field_right(types, inputs, node, use_of(kind, 1), b) {
-            return field_right(types, inputs, node, use_of(kind, 2), c);
+    Row(use_of(kind, 0), use_of(kind, 1), use_of(kind, 2))
+}
+
+// Whether the fields of a node hold what the row asks for.
+fn fields_right(types: usize, inputs: usize, node: usize, row: Row, a: u16, b: u16, c: u16) -> bool
+    requires { ⌜ types < 65536 ⌝ }
+    ensures { λ r. ⌜ r ≡ fieldsRight types inputs node (row .0 ∷ row .1 ∷ row .2 ∷ []) (a ∷ b ∷ c ∷ []) ⌝ }
+{
+    let u = row.0;
+    let v = row.1;
+    let w = row.2;
+    if field_right(types, inputs, node, u, a) {
+        if field_right(types, inputs, node, v, b) {
+            return field_right(types, inputs, node, w, c);
         }
     }
     false
@@ -59,19 +75,66 @@ fn step_right(
     types: usize,
     inputs: usize,
     node: usize,
+    row: Row,
+    a: u16,
+    b: u16,
+    c: u16,
+    value: i32,
+) -> bool
+    requires { ⌜ types < 65536 ⌝ }
+    ensures { λ r. ⌜ r ≡ (eqZ value (pos 0) && fieldsRight types inputs node (row .0 ∷ row .1 ∷ row .2 ∷ []) (a ∷ b ∷ c ∷ [])) ⌝ }
+{
+    if value == 0 {
+        fields_right(types, inputs, node, row, a, b, c)
+    } else {
+        false
+    }
+}
+
+// A static node. Each arm reads the row of the kind that it names, so that the compiler folds the read.
+fn static_right(
+    types: usize,
+    inputs: usize,
+    node: usize,
     kind: u8,
     a: u16,
     b: u16,
     c: u16,
     value: i32,
 ) -> bool
-    requires { ⌜ (types < 65536) × ((0 < kind) × (kind < 13)) ⌝ }
+    requires { ⌜ (types < 65536) × ((2 ≤ kind) × (kind < 8)) ⌝ }
     ensures { λ r. ⌜ r ≡ nodeFits types inputs (λ j. nodeOf kind a b c value) node ⌝ }
 {
-    if value == 0 {
-        fields_right(types, inputs, node, kind, a, b, c)
-    } else {
-        false
+    match kind {
+        2 => step_right(types, inputs, node, row_of(2), a, b, c, value),
+        3 => step_right(types, inputs, node, row_of(3), a, b, c, value),
+        4 => step_right(types, inputs, node, row_of(4), a, b, c, value),
+        5 => step_right(types, inputs, node, row_of(5), a, b, c, value),
+        6 => step_right(types, inputs, node, row_of(6), a, b, c, value),
+        _ => step_right(types, inputs, node, row_of(7), a, b, c, value),
+    }
+}
+
+// A late node, likewise.
+fn late_right(
+    types: usize,
+    inputs: usize,
+    node: usize,
+    kind: u8,
+    a: u16,
+    b: u16,
+    c: u16,
+    value: i32,
+) -> bool
+    requires { ⌜ (types < 65536) × ((8 ≤ kind) × (kind < 13)) ⌝ }
+    ensures { λ r. ⌜ r ≡ nodeFits types inputs (λ j. nodeOf kind a b c value) node ⌝ }
+{
+    match kind {
+        8 => step_right(types, inputs, node, row_of(8), a, b, c, value),
+        9 => step_right(types, inputs, node, row_of(9), a, b, c, value),
+        10 => step_right(types, inputs, node, row_of(10), a, b, c, value),
+        11 => step_right(types, inputs, node, row_of(11), a, b, c, value),
+        _ => step_right(types, inputs, node, row_of(12), a, b, c, value),
     }
 }
 
@@ -90,10 +153,10 @@ fn node_right(
     ensures { λ r. ⌜ r ≡ nodeFits types inputs (λ j. nodeOf kind a b c value) node ⌝ }
 {
     match kind {
-        0 => fields_right(types, inputs, node, kind, a, b, c),
-        1 => step_right(types, inputs, node, kind, a, b, c, value),
-        2..=7 => step_right(types, inputs, node, kind, a, b, c, value),
-        8..=12 => step_right(types, inputs, node, kind, a, b, c, value),
+        0 => fields_right(types, inputs, node, row_of(0), a, b, c),
+        1 => step_right(types, inputs, node, row_of(1), a, b, c, value),
+        2..=7 => static_right(types, inputs, node, kind, a, b, c, value),
+        8..=12 => late_right(types, inputs, node, kind, a, b, c, value),
         _ => false,
     }
 }

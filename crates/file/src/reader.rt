@@ -19,6 +19,7 @@ use script::limits::MAX_NODES;
 use script::limits::MAX_TYPES;
 use script::limits::counts_right;
 use script::structure::structure_refusal;
+use script::word::pack;
 ghost use mathlib.Core.Path.{_≡_};
 ghost use mathlib.Core.Bool.{true};
 ghost use Rattle.script.specs.Replies.{refusalOf, Reads};
@@ -161,7 +162,11 @@ fn records_refusal(
     );
     match earlier(marks, content) {
         Verdict::Refused(f) => Verdict::Refused(f),
-        Verdict::Passed => structure_refusal(kinds, a, b, c, inputs, nodes),
+        Verdict::Passed => {
+            let mut words = [0u64; MAX_NODES];
+            pack(kinds, a, b, c, values, nodes, &mut words);
+            structure_refusal(&words, inputs, nodes)
+        }
     }
 }
 

@@ -3,14 +3,20 @@ use crate::content::content_refusal;
 use script::Counts;
 use script::Refusal;
 use script::Verdict;
+use script::limits::MAX_NODES;
 use script::structure::structure_refusal;
+use script::word::pack;
 ghost use mathlib.Core.Path.{_≡_};
 ghost use mathlib.Core.Bool.{_&&_};
+ghost use Prim.Native.Nat.{_≤_};
 ghost use lib.Dec.{leb};
+ghost use lib.ListN.{length};
+ghost use Rattle.lambdamix.specs.Limits.{maxNodes};
 ghost use Rattle.script.specs.Refusals.{scriptRefusal};
 ghost use Rattle.script.specs.Tables.{tablesScript, tablesRefusal};
 ghost use Rattle.script.specs.Replies.{refusalOf};
 ghost use Rattle.script.specs.Columns.{tablesOf, enough};
+ghost use Rattle.file.specs.PackedTables.{PackedTables};
 
 // Whether two columns, by their lengths, hold n records.
 fn both_hold(n: usize, x: usize, y: usize) -> bool
@@ -51,7 +57,7 @@ pub fn long_enough(
     false
 }
 
-// Refusals 3 to 8.
+// Refusals 3 to 8. Where the contents pass, the nodes are packed into the words.
 fn script_refusal(
     types: usize,
     inputs: usize,
@@ -64,8 +70,11 @@ fn script_refusal(
     b: &[u16],
     c: &[u16],
     values: &[i32],
+    words: &mut [u64; MAX_NODES],
 ) -> Verdict
-    ensures { λ r. ⌜ refusalOf r ≡ scriptRefusal (tablesScript types inputs nodes (tablesOf (now (parameters .entry)) (now (results .entry)) (now («input_types» .entry)) (now (kinds .entry)) (now (a .entry)) (now (b .entry)) (now (c .entry)) (now (values .entry)))) ⌝ }
+    requires { ⌜ maxNodes ≤ length (now words) ⌝ }
+    ensures reply { λ r. ⌜ refusalOf r ≡ scriptRefusal (tablesScript types inputs nodes (tablesOf (now (parameters .entry)) (now (results .entry)) (now («input_types» .entry)) (now (kinds .entry)) (now (a .entry)) (now (b .entry)) (now (c .entry)) (now (values .entry)))) ⌝ }
+    ensures packed { λ r. ⌜ PackedTables r nodes (tablesOf (now (parameters .entry)) (now (results .entry)) (now («input_types» .entry)) (now (kinds .entry)) (now (a .entry)) (now (b .entry)) (now (c .entry)) (now (values .entry))) (now (words .entry)) (now (words .exit)) ⌝ }
 {
     match content_refusal(
         types,
@@ -81,12 +90,15 @@ fn script_refusal(
         values,
     ) {
         Verdict::Refused(f) => Verdict::Refused(f),
-        Verdict::Passed => structure_refusal(kinds, a, b, c, inputs, nodes),
+        Verdict::Passed => {
+            pack(kinds, a, b, c, values, nodes, words);
+            structure_refusal(words, inputs, nodes)
+        }
     }
 }
 
 // "tables shorter than the counts give 1 [0] before all else", then refusals 3 to 8.
-pub fn tables_refusal(
+fn packed_refusal(
     n: Counts,
     parameters: &[u16],
     results: &[u16],
@@ -96,8 +108,11 @@ pub fn tables_refusal(
     b: &[u16],
     c: &[u16],
     values: &[i32],
+    words: &mut [u64; MAX_NODES],
 ) -> Verdict
-    ensures { λ r. ⌜ refusalOf r ≡ tablesRefusal (n .types) (n .inputs) (n .nodes) (tablesOf (now (parameters .entry)) (now (results .entry)) (now («input_types» .entry)) (now (kinds .entry)) (now (a .entry)) (now (b .entry)) (now (c .entry)) (now (values .entry))) ⌝ }
+    requires { ⌜ maxNodes ≤ length (now words) ⌝ }
+    ensures reply { λ r. ⌜ refusalOf r ≡ tablesRefusal (n .types) (n .inputs) (n .nodes) (tablesOf (now (parameters .entry)) (now (results .entry)) (now («input_types» .entry)) (now (kinds .entry)) (now (a .entry)) (now (b .entry)) (now (c .entry)) (now (values .entry))) ⌝ }
+    ensures packed { λ r. ⌜ PackedTables r (n .nodes) (tablesOf (now (parameters .entry)) (now (results .entry)) (now («input_types» .entry)) (now (kinds .entry)) (now (a .entry)) (now (b .entry)) (now (c .entry)) (now (values .entry))) (now (words .entry)) (now (words .exit)) ⌝ }
 {
     if long_enough(
         n,
@@ -125,11 +140,82 @@ pub fn tables_refusal(
             b,
             c,
             values,
+            words,
         )
     } else {
         Verdict::Refused(Refusal {
             number: 1,
             place: 0,
         })
+    }
+}
+
+// Refusals 1 to 8 of counts and tables.
+pub fn tables_refusal(
+    n: Counts,
+    parameters: &[u16],
+    results: &[u16],
+    input_types: &[u16],
+    kinds: &[u8],
+    a: &[u16],
+    b: &[u16],
+    c: &[u16],
+    values: &[i32],
+) -> Verdict
+    ensures { λ r. ⌜ refusalOf r ≡ tablesRefusal (n .types) (n .inputs) (n .nodes) (tablesOf (now (parameters .entry)) (now (results .entry)) (now («input_types» .entry)) (now (kinds .entry)) (now (a .entry)) (now (b .entry)) (now (c .entry)) (now (values .entry))) ⌝ }
+{
+    let mut words = [0u64; MAX_NODES];
+    packed_refusal(
+        n,
+        parameters,
+        results,
+        input_types,
+        kinds,
+        a,
+        b,
+        c,
+        values,
+        &mut words,
+    )
+}
+
+// Whether there are words for as many nodes as a script may have, as in every array of that length.
+fn enough_words(words: &[u64]) -> bool
+    ensures { λ r. ⌜ r ≡ leb maxNodes (length (now (words .entry))) ⌝ }
+{
+    MAX_NODES <= words.len()
+}
+
+// The same, and where nothing is refused the nodes in the lent words.
+pub fn tables_packed(
+    n: Counts,
+    parameters: &[u16],
+    results: &[u16],
+    input_types: &[u16],
+    kinds: &[u8],
+    a: &[u16],
+    b: &[u16],
+    c: &[u16],
+    values: &[i32],
+    words: &mut [u64; MAX_NODES],
+) -> Verdict
+    ensures reply { λ r. ⌜ refusalOf r ≡ tablesRefusal (n .types) (n .inputs) (n .nodes) (tablesOf (now (parameters .entry)) (now (results .entry)) (now («input_types» .entry)) (now (kinds .entry)) (now (a .entry)) (now (b .entry)) (now (c .entry)) (now (values .entry))) ⌝ }
+    ensures packed { λ r. ⌜ PackedTables r (n .nodes) (tablesOf (now (parameters .entry)) (now (results .entry)) (now («input_types» .entry)) (now (kinds .entry)) (now (a .entry)) (now (b .entry)) (now (c .entry)) (now (values .entry))) (now (words .entry)) (now (words .exit)) ⌝ }
+{
+    if enough_words(words) {
+        packed_refusal(
+            n,
+            parameters,
+            results,
+            input_types,
+            kinds,
+            a,
+            b,
+            c,
+            values,
+            words,
+        )
+    } else {
+        tables_refusal(n, parameters, results, input_types, kinds, a, b, c, values)
     }
 }

@@ -5,14 +5,16 @@ use script::Refusal;
 use script::Verdict;
 use script::Writing;
 use script::column;
-ghost use Prim.Native.Nat.{_+_, _*_};
+use script::word::bits;
+ghost use Prim.Native.Nat.{_+_, _*_, _≤_};
+ghost use lib.ListN.{length};
 ghost use mathlib.Core.Path.{_≡_};
 ghost use mathlib.Core.List.{[], _∷_};
 ghost use Rattle.script.specs.Bytes.{bits32, bytes16, bytes32};
 ghost use Rattle.script.specs.File.{typeBytes, inputBytes, nodeBytes, records, numbered, fileBytes, fileLength};
 ghost use Rattle.script.specs.Tables.{tablesScript};
 ghost use Rattle.script.specs.Replies.{Writes};
-ghost use Rattle.file.specs.Written.{Put, Fitted, headRow, typeRow, inputRow, nodeRow};
+ghost use Rattle.file.specs.Written.{Put, Fitted, headRow, typeRow, inputRow, nodeRow, nodeParts};
 
 // Two bytes at a place.
 fn pair_at(out: &mut [u8], at: usize, first: u8, second: u8)
@@ -31,17 +33,6 @@ fn word_at(out: &mut [u8], at: usize, v: u16)
     let low = (v % 256) as u8;
     let high = (v / 256 % 256) as u8;
     pair_at(out, at, low, high)
-}
-
-// The bits of a signed number.
-fn bits(v: i32) -> u32
-    ensures { λ r. ⌜ r ≡ bits32 v ⌝ }
-{
-    if v < 0 {
-        4294967295 - ((-1 - v) as u32)
-    } else {
-        v as u32
-    }
 }
 
 // A signed number of 32 bits at a place, the low byte first.
@@ -86,7 +77,28 @@ fn input_at(out: &mut [u8], at: usize, input: u16)
     }
 }
 
-pub fn node_at(out: &mut [u8], at: usize, kind: u8, a: u16, b: u16, c: u16, value: i32)
+// A node's record where the output has room for all of it: 13 plain stores.
+fn node_inside(out: &mut [u8], at: usize, kind: u8, a: u16, b: u16, c: u16, w: u32)
+    requires { ⌜ at + 13 ≤ length (now out) ⌝ }
+    ensures { λ r. ⌜ Put (now (out .entry)) at (nodeParts kind a b c w) (now (out .exit)) ⌝ }
+{
+    out[at] = b'N';
+    out[at + 1] = b'D';
+    out[at + 2] = kind;
+    out[at + 3] = (a % 256) as u8;
+    out[at + 4] = (a / 256 % 256) as u8;
+    out[at + 5] = (b % 256) as u8;
+    out[at + 6] = (b / 256 % 256) as u8;
+    out[at + 7] = (c % 256) as u8;
+    out[at + 8] = (c / 256 % 256) as u8;
+    out[at + 9] = (w % 256) as u8;
+    out[at + 10] = (w / 256 % 256) as u8;
+    out[at + 11] = (w / 65536 % 256) as u8;
+    out[at + 12] = (w / 16777216 % 256) as u8;
+}
+
+// The same where the output may end: byte after byte.
+fn node_part(out: &mut [u8], at: usize, kind: u8, a: u16, b: u16, c: u16, value: i32)
     ensures { λ r. ⌜ Put (now (out .entry)) at (nodeBytes (record { kind = kind; a = a; b = b; c = c; value = value })) (now (out .exit)) ⌝ }
 {
     if at < out.len() {
@@ -97,6 +109,19 @@ pub fn node_at(out: &mut [u8], at: usize, kind: u8, a: u16, b: u16, c: u16, valu
         word_at(out, at + 7, c);
         value_at(out, at + 9, value);
     }
+}
+
+pub fn node_at(out: &mut [u8], at: usize, kind: u8, a: u16, b: u16, c: u16, value: i32)
+    ensures { λ r. ⌜ Put (now (out .entry)) at (nodeBytes (record { kind = kind; a = a; b = b; c = c; value = value })) (now (out .exit)) ⌝ }
+{
+    let size = out.len();
+    if 13 <= size {
+        if at <= size - 13 {
+            node_inside(out, at, kind, a, b, c, bits(value));
+            return;
+        }
+    }
+    node_part(out, at, kind, a, b, c, value)
 }
 
 // All records of a kind, one after the other, where the counts place them.

@@ -7,31 +7,18 @@ use Rattle.file.proofs.content.fields_right.Tie as tie
 
 returns : tie.Need-returns
 returns c =
-    row-test _ _ _ _ _ _ _ (c .before .before .before .before .before .before .before .before .pre .1)
-    (c .before .before .before .before .before .before .before .use-of .ensures) (c .before .before .before .before .before .before .field-right .ensures) (c .before .before .before .before .before .if1 .taken)
-    (c .before .before .before .before .use-of2 .ensures) (c .before .before .before .field-right2 .ensures) (c .before .before .if2 .taken)
-    (c .before .use-of3 .ensures) (c .field-right3 .ensures) refl
+    row-test _ _ _ _ _ _ _ _ _ (c .before .before .before .before .field-right .ensures) (c .before .before .before .if1 .taken) (c .before .before .field-right2 .ensures) (c .before .if2 .taken) (c .field-right3 .ensures) refl
 
 returns-2 : tie.Need-returns-2
-returns-2 c =
-    row-test _ _ _ _ _ _ _ (c .before .before .before .before .before .before .pre .1)
-    (c .before .before .before .before .before .use-of .ensures) (c .before .before .before .before .field-right .ensures) (c .before .before .before .if1 .taken)
-    (c .before .before .use-of2 .ensures) (c .before .field-right2 .ensures) (c .if2 .left)
-    refl refl refl
+returns-2 c = row-test _ _ _ _ _ _ _ _ _ (c .before .before .before .field-right .ensures) (c .before .before .if1 .taken) (c .before .field-right2 .ensures) (c .if2 .left) refl refl
 
 returns-3 : tie.Need-returns-3
-returns-3 c =
-    row-test _ _ _ _ _ _ _ (c .before .before .before .pre .1)
-    (c .before .before .use-of .ensures) (c .before .field-right .ensures) (c .if1 .left)
-    refl refl refl refl refl refl
+returns-3 c = row-test _ _ _ _ _ _ _ _ _ (c .before .field-right .ensures) (c .if1 .left) refl refl refl refl
 
 pub fields-right-spec : {M : Type 1} → statement M
 fields-right-spec =
     tie.close
     (tie.spec
-    (λ c κs. search needs)
-    (λ c κs. search needs)
-    (λ c κs. search needs)
     (λ c κs. search needs)
     (λ c κs. search needs)
     (λ c κs. search needs)

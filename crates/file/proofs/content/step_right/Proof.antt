@@ -1,18 +1,15 @@
 -- `file::content::step_right` meets its contract: a value other than 0 is a bad field. Assumes nothing.
 use borrow.Author.Needs.{needs}
-use mathlib.Core.Path.{_∙_}
 use native.Mathlib.Omega.{arith}
-use Rattle.file.proofs.ContentLaws.{right-by-fields, wrong-value, value-zero, value-other}
+use Rattle.file.proofs.ContentLaws.{value-zero, value-other}
 use Rattle.file.proofs.content.step_right.Statement.{statement}
 use Rattle.file.proofs.content.step_right.Tie as tie
 
 returns : tie.Need-returns
-returns c =
-    c .fields-right .ensures
-    ∙ right-by-fields _ _ _ _ _ _ _ _ (c .before .before .pre .1 .1) (value-zero (c .before .before .args .kind) (c .before .before .fits .value) (omega (arith, c .before .if1 .taken)))
+returns c = rw (value-zero (c .before .before .fits .value) (omega (arith, c .before .if1 .taken))) (c .fields-right .ensures)
 
 returns-2 : tie.Need-returns-2
-returns-2 c = wrong-value _ _ _ _ _ _ _ _ (value-other _ (c .before .pre .1 .0) (c .before .fits .value) (c .if1 .left))
+returns-2 c = rw (value-other (c .before .fits .value) (c .if1 .left))
 
 pub step-right-spec : {M : Type 1} → statement M
 step-right-spec = tie.close (tie.spec (λ c κs. search needs) returns returns-2)

@@ -2,8 +2,7 @@
 use borrow.Author.Needs.{needs}
 use borrow.Author.Tests.{le-leb, lt-leb, eq-eqb, ne-eqb}
 use mathlib.Core.Path.{refl, sym, _∙_}
-use Rattle.lambdamix.specs.Structure.{orElse}
-use Rattle.script.specs.Refusals.{refusedUnless}
+use Rattle.lambdamix.specs.Structure.{orElse, refusedUnless}
 use Rattle.script.specs.Replies.{refusalOf}
 use Rattle.file.proofs.HeadLaws.{head-by-tests, counts-told, length-told}
 use Rattle.file.proofs.reader.head_refusal.Statement.{statement}

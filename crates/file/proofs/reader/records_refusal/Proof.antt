@@ -1,6 +1,9 @@
--- `file::reader::records_refusal` meets its contract: the earlier of a wrong mark and a bad record, then the structure.
--- Assumes nothing.
+-- `file::reader::records_refusal` meets its contract: the earlier of a wrong mark and a bad record, then the structure. Assumes nothing.
 use borrow.Author.Needs.{needs}
+use Prim.Native.Nat.{ℕ}
+use native.Mathlib.Omega.{arith}
+use lib.ListN.{length-replicate}
+use Rattle.lambdamix.specs.Limits.{maxNodes}
 use Rattle.file.proofs.ReaderLaws.{records-refused, records-by-structure}
 use Rattle.file.proofs.reader.records_refusal.Statement.{statement}
 use Rattle.file.proofs.reader.records_refusal.Tie as tie
@@ -10,9 +13,10 @@ returns c =
     records-refused _ _ _ _ _ _ _ _ _ _ (c .before .before .before .before .before .mark-refusal .ensures) (c .before .before .before .before .content-refusal .ensures) (c .before .before .before .earlier .ensures) (c .before .f .given .1)
 
 returns-2 : tie.Need-returns-2
+unfolding maxNodes
 returns-2 c =
-    records-by-structure _ _ _ _ _ _ _ _ _ _ (c .before .before .before .before .before .mark-refusal .ensures) (c .before .before .before .before .content-refusal .ensures) (c .before .before .before .earlier .ensures) _
-    (c .before .enum-told .given .1) (c .structure-refusal .ensures)
+    records-by-structure _ _ _ _ _ _ _ _ _ _ (c .before .before .before .before .before .before .before .before .before .mark-refusal .ensures) (c .before .before .before .before .before .before .before .before .content-refusal .ensures) (c .before .before .before .before .before .before .before .earlier .ensures) _
+    (c .before .before .before .before .before .enum-told .given .1) (omega (arith, length-replicate {A = ℕ} 4096 0)) (c .before .before .before .pack .ensures) (c .structure-refusal .ensures)
 
 pub records-refusal-spec : {M : Type 1} → statement M
 records-refusal-spec =
@@ -26,6 +30,8 @@ records-refusal-spec =
     (λ c κs. tt)
     (λ c. search needs)
     (λ c. search needs)
+    (λ c. search needs)
+    (λ c κs. tt)
     (λ c κs. tt)
     returns
     returns-2)

@@ -1,15 +1,17 @@
--- `file::tables::script_refusal` meets its contract: contents, then structure. Assumes nothing.
+-- `file::tables::script_refusal` meets its contract: contents, then structure on words that hold the nodes. Assumes nothing.
 use borrow.Author.Needs.{needs}
-use Rattle.file.proofs.ScriptLaws.{refused-by-content, refused-by-structure}
+use Rattle.file.proofs.ScriptLaws.{refused-by-content, refused-by-structure, packed-by-pack, not-packed}
 use Rattle.file.proofs.tables.script_refusal.Statement.{statement}
 use Rattle.file.proofs.tables.script_refusal.Tie as tie
 
 returns : tie.Need-returns
-returns c = refused-by-content _ _ _ _ _ _ _ _ _ _ _ (c .before .before .before .content-refusal .ensures) (c .before .f .given .1)
+returns c = (refused-by-content _ _ _ _ _ _ _ _ _ _ _ (c .before .before .before .content-refusal .ensures) (c .before .f .given .1), not-packed)
 
 returns-2 : tie.Need-returns-2
-returns-2 c =
-    refused-by-structure _ _ _ _ _ _ _ _ _ _ _ _ (c .before .before .before .content-refusal .ensures) (c .before .enum-told .given .1) (c .structure-refusal .ensures)
+returns-2 c = (
+  refused-by-structure _ _ _ _ _ _ _ _ _ _ _ (c .before .before .before .before .before .before .content-refusal .ensures) (c .before .before .before .before .enum-told .given .1) (c .before .before .before .before .before .before .before .before .before .before .before .before .before .before .pre) (c .before .before .pack .ensures) _ (c .structure-refusal .ensures),
+  packed-by-pack _ _ _ _ _ _ _ _ _ _ _ (c .before .before .before .before .before .before .content-refusal .ensures) (c .before .before .before .before .enum-told .given .1) (c .before .before .before .before .before .before .before .before .before .before .before .before .before .before .pre) (c .before .before .pack .ensures) _,
+)
 
 pub script-refusal-spec : {M : Type 1} → statement M
 script-refusal-spec =
@@ -18,6 +20,7 @@ script-refusal-spec =
     (λ c κs. tt)
     (λ c. search needs)
     (λ c. search needs)
+    (λ c κs. tt)
     (λ c κs. tt)
     returns
     returns-2)

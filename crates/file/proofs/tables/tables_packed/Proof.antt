@@ -1,0 +1,25 @@
+-- `file::tables::tables_packed` meets its contract: with too few words nothing is said of them. Assumes nothing.
+use mathlib.Core.Path.{sym, _∙_}
+use native.Mathlib.Omega.{arith}
+use lib.ListN.{length}
+use Rattle.lambdamix.specs.Limits.{maxNodes}
+use borrow.Author.Tests.{leb-true, leb-false}
+use Rattle.file.proofs.tables.tables_packed.Statement.{statement}
+use Rattle.file.proofs.tables.tables_packed.Tie as tie
+
+packed-refusal-requires : tie.Need-packed-refusal-requires
+packed-refusal-requires c κs = leb-true _ _ (sym (c .before .before .enough-words .ensures) ∙ c .before .if1 .taken)
+
+returns-2 : tie.Need-returns-2
+returns-2 c =
+    (c .tables-refusal .ensures, record { nodes = λ e h. absurd (omega (arith, leb-false maxNodes (length (c .before .before .before .before .before .before .before .before .before .before .before .before .args .words .now)) (sym (c .before .before .enough-words .ensures) ∙ c .before .if1 .left))) })
+
+pub tables-packed-spec : {M : Type 1} → statement M
+tables-packed-spec =
+    tie.close
+    (tie.spec
+    (λ c κs. tt)
+    packed-refusal-requires
+    (λ c κs. tt)
+    (λ c. c .packed-refusal .ensures)
+    returns-2)
