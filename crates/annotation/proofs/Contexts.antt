@@ -1,77 +1,88 @@
--- The stack of binders and the context that it holds: what stays of it, what a binder adds, and that a name found on it, or else
--- among the inputs, has the type that the context gives. Assumes nothing.
-use Prim.Native.Nat.{ℕ, zero, suc, _+_, _-_, _≤_, _<_}
-use mathlib.Core.Path.{_≡_, refl, sym, ap}
+-- The stack of binders and the context that it holds: what stays of it, what a binder adds, the inputs at its bottom, and that a name
+-- found on it has the type that the context gives. Assumes nothing.
+use Prim.Native.Nat.{ℕ, zero, suc, _+_, _-_, _*_, _/_, _%_, _≤_, _<_}
+use mathlib.Core.Path.{_≡_, refl, sym, _∙_}
 use mathlib.Core.Bool.{Bool, true, false}
 use mathlib.Core.List.{List, [], _∷_}
-use mathlib.Core.Option.{Option, none, some}
+use mathlib.Core.Option.{Option, some}
 use native.Mathlib.Omega.{arith}
-use native.Mathlib.Nat.{zero-add}
 use native.Mathlib.Numerals.{add-one}
-use lib.ListN.{length, getD, set}
+use lib.ListN.{length, getD, set, length-set}
 use lib.Seq.{getD-set-same, getD-set-other}
-use lib.Dec.{ltb}
-use borrow.Author.Tests.{ltb-true, ltb-false, leb-true, eq-eqb, ne-eqb}
-use Rattle.lambdamix.specs.declared.Use.{Use}
-use Rattle.lambdamix.specs.declared.Use.the-variants.{Binder}
-use Rattle.lambdamix.specs.Script.{Script, Node, nodeAt, nodeCount}
+use borrow.Author.Tests.{leb-true, lt-ltb, le-ltb}
+use Rattle.lambdamix.specs.Script.{Script}
 use Rattle.lambdamix.specs.Types.{Ty, typeOf, typeCount}
 use Rattle.lambdamix.specs.Typing.{Context, bind, typeAt, typeAtBy, inputType, inputTypeBy, contextFrom, inputContext}
-use Rattle.lambdamix.specs.Checker.{typed, own, provided, varRule}
-use Rattle.script.specs.declared.Counts.{Counts}
-use Rattle.script.specs.declared.NodeNumber.{NodeNumber}
-use Rattle.script.specs.declared.TypeNumber.{TypeNumber}
+use Rattle.lambdamix.specs.Checker.{typed, faulty, own, provided, varRule}
 use Rattle.script.specs.Refusals.{inputFits}
-use Rattle.script.specs.Tables.{Tables, rowInput, rowNode}
-use Rattle.annotation.specs.declared.typing.Typed.{Typed}
-use Rattle.annotation.specs.Fields.{pick, parameterOf, innerContext}
-use Rattle.annotation.specs.Answers.{scriptOf, Passes, meaning, Known, Stands, givenBy, bound, Binds, no-binder, one-more, Agree, Enters}
-use Rattle.annotation.proofs.Passing.{passes-sound, input-count, input-row, node-count, node-row}
+use Rattle.annotation.specs.Answers.{pick, typeAnswer, faultAnswer, meaning, Stands, givenBy}
+use Rattle.annotation.specs.Walks.{Pair, Binds, no-binder, one-more, bound, Agree, Pushed}
+use Rattle.annotation.proofs.Passing.{Sound}
 use Rattle.annotation.proofs.TypeNumbers.{type-zero, type-one}
-use Rattle.annotation.proofs.ByFields.{parameter-known}
+
+-- ---- answers
+
+module _ (s : Script) (ok : Sound s) where
+  pub type-stands : (t : ℕ) → t < typeCount s → Stands s (typeAnswer t) (typed (typeOf s t))
+  unfolding meaning typeCount
+  type-stands t h =
+      let few = ok .few-types in
+      let e : (1048576 + t) % 65536 ≡ t = omega arith in
+      record { said = rw (le-ltb (1048576 + t) 1048576 (omega arith), e); known = λ _. omega arith }
+
+pub fault-stands :
+    (s : Script) (k i : ℕ) → k < 16 → i < 65536 → Stands s (faultAnswer k i) (faulty (record { number = k; place = i }))
+unfolding meaning
+fault-stands s k i h l =
+    let e : (16 * i + k) / 16 ≡ i = omega arith in
+    let f : (16 * i + k) % 16 ≡ k = omega arith in
+    record { said = rw (lt-ltb (16 * i + k) 1048576 (omega arith), e, f); known = λ m. let z : ⊥ = omega arith in absurd z }
+
+-- the answer by a test stands for the rule by that test
+pub given-stands :
+    (s : Script) → Sound s → (b : Bool) (t i : ℕ) → i < 65536 → (b ≡ true → t < typeCount s) →
+    Stands s (givenBy b t i) (own i (provided b (typeOf s t)))
+unfolding own provided
+given-stands s ok true t i l h = type-stands s ok t (h refl)
+given-stands s ok false t i l h = fault-stands s 9 i (omega arith) l
+
+-- ---- the stack
 
 -- binders in places that two stacks share make up one context
 pub binds-agree :
     {s : Script} {xs ys : List ℕ} {d : ℕ} {Γ : Context} → Binds s xs d Γ → Agree d xs ys → Binds s ys d Γ
-unfolding Agree
-binds-agree no-binder h = no-binder
-binds-agree {s} {ys} (one-more {d} {Γ} b l) h =
-    rw (h d (omega arith)) (one-more (binds-agree b (λ k m. h k (omega arith))) (rw (h d (omega arith)) at l))
+binds-agree no-binder a = no-binder
+binds-agree (one-more {d} b p h) a =
+    one-more (binds-agree b (record { same = a .same; each = λ k m. a .each k (omega arith) })) (rw (a .each d (omega arith)) at p) h
 
--- a binder written at the top
+pub agree-refl : (d : ℕ) (xs : List ℕ) → Agree d xs xs
+agree-refl d xs = record { same = refl; each = λ k h. refl }
+
+pub agree-trans : {d e : ℕ} {xs ys zs : List ℕ} → Agree d xs ys → d ≤ e → Agree e ys zs → Agree d xs zs
+agree-trans a l b = record { same = a .same ∙ b .same; each = λ k h. a .each k h ∙ b .each k (omega arith) }
+
+-- a binder on top
 pub binds-more :
-    {s : Script} {xs : List ℕ} {d : ℕ} {Γ : Context} (i : ℕ) → Binds s xs d Γ → d < length xs → i < nodeCount s →
-    Binds s (set xs d i) (d + 1) (bind (nodeAt s i .a) (typeOf s (parameterOf (nodeAt s i))) Γ)
-unfolding Agree
-binds-more {s} {xs} {d} {Γ} i b l h =
-    let e : getD (set xs d i) d 0 ≡ i = getD-set-same xs d i 0 l in
-    let r : Binds s (set xs d i) d Γ = binds-agree b (λ k m. sym (getD-set-other xs d k i 0 (omega arith))) in
-    rw (add-one d) (rw e at (one-more r (rw e h)))
+    {s : Script} {xs ys : List ℕ} {w d e y t : ℕ} {Γ : Context} → Pushed w d e xs ys → d < length xs → Pair w y t → t < typeCount s →
+    Binds s xs d Γ → Binds s ys e (bind y (typeOf s t) Γ)
+binds-more {d} {y} {t} p l q h b =
+    let (e, f) = p .top l in
+    rw (e, add-one d) (one-more {y = y} {t = t} (binds-agree b (p .kept)) (rw f q) h)
 
--- the answer by a test stands for the rule by that test
-pub given-stands :
-    (s : Script) (b : Bool) (t : TypeNumber) (i : NodeNumber) → (b ≡ true → t .0 < typeCount s) →
-    Stands s (givenBy b t i) (own (i .0) (provided b (typeOf s (t .0))))
-unfolding own provided meaning Known
-given-stands s true t i h = record { said = refl; known = h refl }
-given-stands s false t i h = record { said = refl; known = tt }
+-- pushing a binder, with room and without
+pub on-top : (w d : ℕ) (xs : List ℕ) → d < length xs → Pushed w d (d + 1) xs (set xs d w)
+on-top w d xs l =
+    record {
+      kept = record { same = simp length-set; each = λ k h. sym (getD-set-other xs d k w 0 (omega arith)) };
+      least = omega arith;
+      top = λ _. (refl, getD-set-same xs d w 0 l);
+    }
 
-input-present :
-    (k : ℕ) (ts : List ℕ) (j : ℕ) → j < length ts → typeAt (contextFrom k ts) (k + j) ≡ some (inputType (getD ts j 0))
-unfolding typeAt typeAtBy contextFrom
-input-present k [] j h = let z : ⊥ = omega arith in absurd z
-input-present k (t ∷ ts) zero h = rw (eq-eqb k (k + 0) (omega arith))
-input-present k (t ∷ ts) (suc j) h =
-    let e : k + suc j ≡ suc k + j = omega arith in
-    rw (ne-eqb k (k + suc j) (λ w. omega arith), e) (input-present (suc k) ts j (omega arith))
+pub no-room : (w d : ℕ) (xs : List ℕ) → length xs ≤ d → Pushed w d d xs xs
+no-room w d xs l =
+    record { kept = agree-refl d xs; least = omega arith; top = λ h. let z : ⊥ = omega arith in absurd z }
 
-input-absent : (k : ℕ) (ts : List ℕ) (j : ℕ) → length ts ≤ j → typeAt (contextFrom k ts) (k + j) ≡ none
-unfolding typeAt typeAtBy contextFrom
-input-absent k [] j h = refl
-input-absent k (t ∷ ts) zero h = let z : ⊥ = omega arith in absurd z
-input-absent k (t ∷ ts) (suc j) h =
-    let e : k + suc j ≡ suc k + j = omega arith in
-    rw (ne-eqb k (k + suc j) (λ w. omega arith), e) (input-absent (suc k) ts j (omega arith))
+-- ---- the inputs
 
 input-type : (s : Script) (t : ℕ) → t ≤ 1 → typeOf s t ≡ inputType t
 unfolding inputType inputTypeBy
@@ -79,67 +90,50 @@ input-type s zero h = type-zero s
 input-type s (suc zero) h = type-one s
 input-type s (suc (suc t)) h = let z : ⊥ = omega arith in absurd z
 
+bound-from :
+    (s : Script) (binders : List ℕ) (k : ℕ) (ts : List ℕ) →
+    ((j : ℕ) → j < length ts → Pair (getD binders (length ts - 1 - j) 0) (k + j) (getD ts j 0)) →
+    ((j : ℕ) → j < length ts → getD ts j 0 ≤ 1) → Binds s binders (length ts) (contextFrom k ts)
+unfolding contextFrom typeCount
+bound-from s binders k [] p h = no-binder
+bound-from s binders k (t ∷ ts) p h =
+    let q = p 0 (omega arith) in
+    let e : suc (length ts) - 1 - 0 ≡ length ts = omega arith in
+    let f : k + 0 ≡ k = omega arith in
+    let few = h 0 (omega arith) in
+    rw (← input-type s t few)
+    (one-more (bound-from s binders (suc k) ts rest (λ j l. h (suc j) (omega arith))) (rw (e, f) at q) (omega arith))
+  where
+    rest : (j : ℕ) → j < length ts → Pair (getD binders (length ts - 1 - j) 0) (suc k + j) (getD ts j 0)
+    rest j l =
+        let e : suc (length ts) - 1 - suc j ≡ length ts - 1 - j = omega arith in
+        let f : k + suc j ≡ suc k + j = omega arith in
+        rw (e, f) at (p (suc j) (omega arith))
+
+-- Theorem: the inputs at the bottom of a stack make up the inputs' context.
+pub inputs-bound :
+    (s : Script) → Sound s → (binders : List ℕ) →
+    ((j : ℕ) → j < length (s .inputs) → Pair (getD binders (length (s .inputs) - 1 - j) 0) j (getD (s .inputs) j 0)) →
+    Binds s binders (length (s .inputs)) (inputContext s)
+unfolding inputContext inputFits
+inputs-bound s ok binders p =
+    bound-from s binders 0 (s .inputs) (λ j l. let e : 0 + j ≡ j = omega arith in rw e (p j l))
+    (λ j l. leb-true _ _ (ok .inputs-fit j l))
+
+-- ---- a name
+
 chosen-stands :
-    (s : Script) (b : Bool) (e f : Typed) (i : ℕ) (t : Ty) (u : Option Ty) → Stands s e (own i (varRule (some t))) →
+    (s : Script) (b : Bool) (e f i : ℕ) (t : Ty) (u : Option Ty) → Stands s e (own i (varRule (some t))) →
     Stands s f (own i (varRule u)) → Stands s (pick b e f) (own i (varRule (typeAtBy b t u)))
 unfolding typeAtBy
 chosen-stands s true e f i t u p q = p
 chosen-stands s false e f i t u p q = q
 
--- Theorem: what is found for a name among the binders, and else among the inputs, stands for the rule of a variable.
-module _ (n : Counts) (x : Tables) (ok : Passes n x) (i : NodeNumber) (y : ℕ) where
-  input-stands :
-      Stands (scriptOf n x) (givenBy (ltb y (n .inputs)) (record { 0 = getD (x .inputs) y 0 }) i)
-      (own (i .0) (varRule (typeAt (inputContext (scriptOf n x)) y)))
-  unfolding inputContext varRule meaning Known own inputFits rowInput typeCount
-  input-stands = by-test (ltb y (n .inputs)) refl
-    where
-      by-test :
-          (b : Bool) → ltb y (n .inputs) ≡ b →
-          Stands (scriptOf n x) (givenBy b (record { 0 = getD (x .inputs) y 0 }) i)
-          (own (i .0) (varRule (typeAt (contextFrom 0 (scriptOf n x .inputs)) y)))
-      by-test true e =
-          let l : y < n .inputs = ltb-true _ _ e in
-          let m : y < length (scriptOf n x .inputs) = omega (arith, input-count n x) in
-          let q : getD (scriptOf n x .inputs) y 0 ≤ 1 = leb-true _ _ (passes-sound n x ok .inputs-fit y m) in
-          let p : typeAt (contextFrom 0 (scriptOf n x .inputs)) y ≡ some (inputType (getD (scriptOf n x .inputs) y 0)) =
-          rw zero-add at (input-present 0 (scriptOf n x .inputs) y m) in
-          rw (p, ← input-row n x y l) (record { said = ap typed (input-type (scriptOf n x) _ q); known = omega arith })
-      by-test false e =
-          let l : n .inputs ≤ y = ltb-false _ _ e in
-          let m : length (scriptOf n x .inputs) ≤ y = omega (arith, input-count n x) in
-          let p : typeAt (contextFrom 0 (scriptOf n x .inputs)) y ≡ none = rw zero-add at (input-absent 0 (scriptOf n x .inputs) y m) in
-          rw p (record { said = refl; known = tt })
-
-  pub bound-stands :
-      {binders : List ℕ} {d : ℕ} {Γ : Context} → Binds (scriptOf n x) binders d Γ →
-      Stands (scriptOf n x)
-      (bound (x .kinds) (x .a) (x .b) binders y (givenBy (ltb y (n .inputs)) (record { 0 = getD (x .inputs) y 0 }) i) d)
-      (own (i .0) (varRule (typeAt Γ y)))
-  unfolding bound typeAt rowNode parameterOf meaning Known own varRule
-  bound-stands no-binder = input-stands
-  bound-stands {binders} (one-more {d} {Γ} b l) =
-      let e = node-row n x (getD binders d 0) (omega (arith, node-count n x)) in
-      let k = rw e at (parameter-known (scriptOf n x) (passes-sound n x ok) (getD binders d 0) l) in
-      rw e (chosen-stands _ _ _ _ _ _ _ (record { said = refl; known = k }) (bound-stands b))
-
--- entering a node that binds, one that finds no room, and one that binds nothing
-pub binder-enters : (i d : ℕ) (xs : List ℕ) → d < length xs → Enters Binder i d (d + 1) xs (set xs d i)
-unfolding Agree innerContext
-binder-enters i d xs l =
-    record {
-      kept = λ k h. sym (getD-set-other xs d k i 0 (omega arith));
-      deep = omega arith;
-      binds = λ s Γ b m h. binds-more i b l h;
-    }
-
-pub full-enters : (i d : ℕ) (xs : List ℕ) → length xs ≤ d → Enters Binder i d d xs xs
-unfolding Agree
-full-enters i d xs l =
-    record { kept = λ k h. refl; deep = omega arith; binds = λ s Γ b m h. let z : ⊥ = omega arith in absurd z }
-
-pub other-enters :
-    (u : Use) (i d : ℕ) (xs : List ℕ) → ((s : Script) (nd : Node) (Γ : Context) → innerContext s nd u Γ ≡ Γ) →
-    Enters u i d d xs xs
-unfolding Agree
-other-enters u i d xs e = record { kept = λ k h. refl; deep = omega arith; binds = λ s Γ b m h. rw (e s (nodeAt s i) Γ) b }
+-- Theorem: what is found for a name among the binders stands for the rule of a variable.
+pub bound-stands :
+    (s : Script) → Sound s → (i y : ℕ) → i < 65536 → {binders : List ℕ} {d : ℕ} {Γ : Context} → Binds s binders d Γ →
+    Stands s (bound binders y i d) (own i (varRule (typeAt Γ y)))
+unfolding bound typeAt own varRule
+bound-stands s ok i y l no-binder = fault-stands s 9 i (omega arith) l
+bound-stands s ok i y l (one-more b p h) =
+    rw (p .high, p .low) (chosen-stands s _ _ _ i _ _ (type-stands s ok _ h) (bound-stands s ok i y l b))

@@ -1,15 +1,121 @@
--- Of two faults the one at the lower node is told. Assumes nothing.
-use Prim.Native.Nat.{ℕ, _≤_, _<_}
-use mathlib.Core.Path.{_≡_}
-use borrow.Author.Tests.{le-leb, lt-leb}
-use Rattle.script.specs.declared.NodeNumber.{NodeNumber}
-use Rattle.annotation.specs.declared.typing.Typed.{Typed}
-use Rattle.annotation.specs.declared.typing.Typed.the-variants.{Fault}
-use Rattle.annotation.specs.Answers.{lowest}
+-- A fault among the children's answers goes first, the lowest of several. Assumes nothing.
+use Prim.Native.Nat.{ℕ, _/_, _%_, _≤_, _<_}
+use mathlib.Core.Path.{_≡_, refl, _∙_, sym, ap}
+use mathlib.Core.Bool.{Bool, true, false}
+use mathlib.Core.Logic.{⊎-elim}
+use mathlib.Core.List.{List}
+use native.Mathlib.Omega.{arith}
+use lib.Dec.{leb, ltb}
+use borrow.Author.Tests.{lt-ltb, le-ltb, ltb-true, ltb-false, le-leb, lt-leb, leb-true, leb-false}
+use Rattle.lambdamix.specs.Script.{Script}
+use Rattle.lambdamix.specs.Types.{Ty, typeOf}
+use Rattle.lambdamix.specs.Checker.{Checked, typed, faulty, lowerBy, lower, both, Verdict, rule, gather}
+use Rattle.lambdamix.proofs.Tests.{holds-or-fails}
+use Rattle.annotation.specs.Answers.{pick, refusalIn, meaning, Stands, lowest}
 
-module _ {e f : Typed} {n m : ℕ} {i j : NodeNumber} (p : e ≡ Fault n i) (q : f ≡ Fault m j) where
-  pub first-lower : i .0 ≤ j .0 → Fault n i ≡ lowest e f
-  first-lower h = rw (p, q, le-leb _ _ h)
+-- some answer that is no fault
+pub data Right {A : Type 0} : Checked A → Type 0 where
+  right : (a : A) → Right (typed a)
 
-  pub second-lower : j .0 < i .0 → Fault m j ≡ lowest e f
-  second-lower h = rw (p, q, lt-leb _ _ h)
+-- the answer m tells the fault of x, if there is one
+pub record Told {A : Type 0} (m : ℕ) (x : Checked A) : Type 0 where
+  pub fault : m < 1048576 → x ≡ faulty (refusalIn m)
+  pub no-fault : 1048576 ≤ m → Right x
+
+pub told : {s : Script} {e : ℕ} {x : Checked Ty} → Stands s e x → Told e x
+unfolding meaning
+told {s} {e} {x} p =
+    record {
+      fault = λ h. sym (p .said) ∙ rw (lt-ltb e 1048576 h);
+      no-fault = λ h. rw (← p .said, le-ltb e 1048576 h) (right (typeOf s _));
+    }
+
+-- what an answer that is no fault stands for
+pub typed-answer :
+    {s : Script} {e : ℕ} {x : Checked Ty} → Stands s e x → 1048576 ≤ e → x ≡ typed (typeOf s (e % 65536))
+unfolding meaning
+typed-answer {s} {e} p h = sym (p .said) ∙ rw (le-ltb e 1048576 h)
+
+module _ {A : Type 0} {m : ℕ} {x : Checked A} (p : Told m x) where
+  pub told-alone : {B : Type 0} (b : B) → Told m (both x (typed b))
+  unfolding both
+  told-alone b =
+      record {
+        fault = λ h. rw (p .fault h);
+        no-fault = λ h. elim (p .no-fault h) [ right a ↦ right (a, b) ];
+      }
+
+pub told-gather : {m : ℕ} {x : Checked (Ty × List Ty)} → Told m x → Told m (gather x)
+unfolding gather
+told-gather p =
+    record {
+      fault = λ h. rw (p .fault h);
+      no-fault = λ h. elim (p .no-fault h) [ right a ↦ right _ ];
+    }
+
+-- of two faults the one at the lower node
+lower-place :
+    (b : Bool) (e f : ℕ) → lowerBy b (refusalIn e) (refusalIn f) ≡ refusalIn (pick b e f)
+unfolding lowerBy
+lower-place true e f = refl
+lower-place false e f = refl
+
+one-of : (P : ℕ → Type 0) (b : Bool) (e f : ℕ) → P e → P f → P (pick b e f)
+one-of P true e f p q = p
+one-of P false e f p q = q
+
+module _ {A B : Type 0} {e f : ℕ} {x : Checked A} {y : Checked B} (p : Told e x) (q : Told f y) where
+  two-faults : e < 1048576 → f < 1048576 → Told (lowest e f) (both x y)
+  unfolding lowest both lower
+  two-faults h k =
+      let l : lowest e f < 1048576 = one-of (λ m. m < 1048576) (leb (e / 16) (f / 16)) e f h k in
+      record {
+        fault = λ _. rw (p .fault h, q .fault k) (ap faulty (lower-place _ e f));
+        no-fault = λ m. let z : ⊥ = omega arith in absurd z;
+      }
+
+  first-fault : e < 1048576 → 1048576 ≤ f → Told (lowest e f) (both x y)
+  unfolding lowest both
+  first-fault h k =
+      elim (q .no-fault k) [
+        | right b ↦ rw (le-leb (e / 16) (f / 16) (omega arith)) (record { fault = λ _. rw (p .fault h); no-fault = λ m. let z : ⊥ = omega arith in absurd z })
+      ]
+
+  second-fault : 1048576 ≤ e → f < 1048576 → Told (lowest e f) (both x y)
+  unfolding lowest both
+  second-fault h k =
+      elim (p .no-fault h) [
+        | right a ↦ rw (lt-leb (e / 16) (f / 16) (omega arith)) (record { fault = λ _. rw (q .fault k); no-fault = λ m. let z : ⊥ = omega arith in absurd z })
+      ]
+
+  no-faults : 1048576 ≤ e → 1048576 ≤ f → Told (lowest e f) (both x y)
+  unfolding lowest both
+  no-faults h k =
+      let l : 1048576 ≤ lowest e f = one-of (λ m. 1048576 ≤ m) (leb (e / 16) (f / 16)) e f h k in
+      elim (p .no-fault h) [
+        | right a ↦ elim (q .no-fault k) [
+          | right b ↦ record { fault = λ m. let z : ⊥ = omega arith in absurd z; no-fault = λ _. right (a, b) }
+        ]
+      ]
+
+  -- Theorem: the lowest of two answers tells the fault of both.
+  pub told-both : Told (lowest e f) (both x y)
+  told-both =
+      ⊎-elim
+      (λ a. ⊎-elim (λ b. two-faults (ltb-true _ _ a) (ltb-true _ _ b)) (λ b. first-fault (ltb-true _ _ a) (ltb-false _ _ b)) (holds-or-fails (ltb f 1048576)))
+      (λ a. ⊎-elim (λ b. second-fault (ltb-false _ _ a) (ltb-true _ _ b)) (λ b. no-faults (ltb-false _ _ a) (ltb-false _ _ b)) (holds-or-fails (ltb f 1048576)))
+      (holds-or-fails (ltb e 1048576))
+
+-- where the lowest of two answers is no fault, none is
+pub both-types : (e f : ℕ) → 1048576 ≤ lowest e f → (1048576 ≤ e) × (1048576 ≤ f)
+unfolding lowest
+both-types e f h =
+    ⊎-elim (λ b. let w : 1048576 ≤ e = rw b at h in let v = leb-true (e / 16) (f / 16) b in (w, omega arith))
+    (λ b. let w : 1048576 ≤ f = rw b at h in let v = leb-false (e / 16) (f / 16) b in (omega arith, w)) (holds-or-fails (leb (e / 16) (f / 16)))
+
+-- a fault goes before the node's own rule
+pub told-rule :
+    (s : Script) (i : ℕ) {A : Type 0} (R : A → Verdict) {m : ℕ} {x : Checked A} → Told m x → m < 1048576 → Stands s m (rule i R x)
+unfolding meaning rule
+told-rule s i R {m} p h =
+    rw (p .fault h) (record { said = rw (lt-ltb m 1048576 h); known = λ l. let z : ⊥ = omega arith in absurd z })

@@ -1,10 +1,11 @@
 pub mod Passing
 pub mod TypeNumbers
-pub mod Uses
-pub mod ByFields
+pub mod Trees
 pub mod Contexts
-pub mod Steps
-pub mod Recursion
-pub mod Joining
 pub mod Faults
+pub mod Rules
+pub mod Recursion
+pub mod Filling
+pub mod Root
+pub mod Joining
 pub mod Acceptance

@@ -1,143 +1,269 @@
--- The recursion on falling node numbers, a step at a time: a node's answer from those at its fields, and the answer at a field
--- from that of the node it holds. Assumes nothing.
-use Prim.Native.Nat.{ℕ, _+_, _-_, _≤_, _<_}
-use mathlib.Core.Path.{_≡_, refl, ap, _∙_, subst}
+-- The recursion on falling node numbers: a node's answer from those at its children, and the root's verdict. Assumes nothing.
+use Prim.Native.Nat.{ℕ, zero, suc, _+_, _-_, _≤_, _<_, max}
+use mathlib.Core.Path.{_≡_, refl, sym, _∙_}
 use mathlib.Core.List.{List, [], _∷_}
-use mathlib.Core.Option.{none}
+use mathlib.Core.Logic.{_⊎_, inl, inr}
 use native.Mathlib.Omega.{arith}
-use lib.IntN.{ℤ}
+use lib.Dec.{eqb}
 use lib.ListN.{length, getD}
-use borrow.Author.Tests.{eq-eqb}
-use Rattle.lambdamix.specs.declared.Use.{Use}
-use Rattle.lambdamix.specs.declared.Use.the-variants.{Child}
-use Rattle.lambdamix.specs.Script.{Script, Node, fields, rowOf, nodeAt, nodeCount, root}
-use Rattle.lambdamix.specs.Term.{tree}
-use Rattle.lambdamix.specs.Types.{Ty, D, typeCount}
-use Rattle.lambdamix.specs.Typing.{Context}
-use Rattle.lambdamix.specs.Checker.{Checked, typed, both, rule, check, checkedRoot, annotationRefusal}
-use Rattle.script.specs.declared.Counts.{Counts}
-use Rattle.script.specs.declared.NodeNumber.{NodeNumber}
-use Rattle.script.specs.declared.TypeNumber.{TypeNumber}
-use Rattle.script.specs.Kinds.{useOf}
-use Rattle.script.specs.Tables.{Tables, rowNode}
-use Rattle.annotation.specs.declared.typing.Typed.{Typed}
-use Rattle.annotation.specs.declared.typing.Typed.the-variants.{Is}
-use Rattle.annotation.specs.Fields.{stepRule, fieldCheck, innerContext}
-use Rattle.annotation.specs.Answers.{tablesOf, scriptOf, Passes, meaning, Known, Stands, rootAnswer, no-binder, Agree, Enters, Stepped, Answers}
-use Rattle.annotation.proofs.Passing.{passes-sound, node-count, node-row}
-use Rattle.annotation.proofs.TypeNumbers.{type-one}
-use Rattle.annotation.proofs.ByFields.{child-below, check-fields}
-use Rattle.annotation.proofs.Contexts.{binds-agree}
-use Rattle.annotation.proofs.Steps.{root-stands}
+use Rattle.lambdamix.specs.Script.{Script, rows, rowOf, blankRow, nodeAt, nodeCount, fields, ifChild, childFields, children}
+use Rattle.lambdamix.specs.Term.{lam, dlam, childAt, build, terms, tree, height, heights}
+use Rattle.lambdamix.specs.Types.{typeOf, typeCount}
+use Rattle.lambdamix.specs.Typing.{Context, bind}
+use Rattle.lambdamix.specs.Checker.{check}
+use Rattle.script.specs.Words.{wordKind, wordA, wordB, wordC}
+use Rattle.script.proofs.TreeForms.{All}
+use Rattle.annotation.specs.Answers.{pick, typeAnswer, Stands}
+use Rattle.annotation.specs.Walks.{Lent, Pair, Binds, bound, Agree, Pushed, Answers, ChildAnswers, OneChild, lifts, fixes, fixes-late, TwoChildren, applies, operates, applies-late, operates-late, ThreeChildren, chooses, chooses-late, BindsName, abstracts, abstracts-late, WordOf, Stand, none-left, and-then, Ruled, BinderRuled}
+use Rattle.annotation.proofs.Passing.{sound}
+use Rattle.annotation.proofs.TypeNumbers.{type-zero}
+use Rattle.annotation.proofs.Trees.{Below, kind-known, below-parent, named-type, tree-node, tree-height, node-kind, node-field, node-children}
+use Rattle.annotation.proofs.Contexts.{type-stands, binds-agree, agree-refl, agree-trans, binds-more, bound-stands}
 
--- D's number stands for D
-late-stands : (s : Script) → Stands s (Is (record { 0 = 1 })) (typed D)
-unfolding meaning Known typeCount
-late-stands s = record { said = ap typed (type-one s); known = omega arith }
+-- ---- the children of a node, one after the other
 
-module _ {n : Counts} {x : List ℤ → Tables} {before after : List ℕ} {d i f : ℕ} {u : Use} {r : Typed} where
-  -- a field that is a child has its node's answer
-  pub at-child : u ≡ Child → f < i → Answers n x before after d (f + 1) Child f r → Answers n x before after d i u f r
-  at-child e l a =
-      rw e
-      (record { kept = a .kept; reply = λ w Γ ok b h m k. a .reply w Γ ok b (λ _. omega arith) (omega arith) (omega arith) })
+-- the answers es at the children ms of node i, which leave the stack as `after`
+pub data Walk (words ts : List ℕ) (d i : ℕ) : List ℕ → List ℕ → List ℕ → List ℕ → Type 0 where
+  no-child : {stack : List ℕ} → Walk words ts d i stack stack [] []
+  next-child :
+      {before between after ms es : List ℕ} {m e : ℕ} → ChildAnswers words ts before between d i m e →
+      Walk words ts d i between after ms es → Walk words ts d i before after (m ∷ ms) (e ∷ es)
 
-module _ {n : Counts} {x : List ℤ → Tables} {stack : List ℕ} {d i f : ℕ} {u : Use} where
-  -- a child's number is smaller than its parent's
-  pub no-smaller : u ≡ Child → i ≤ f → Answers n x stack stack d i u f (Is (record { 0 = 1 }))
-  unfolding Agree
-  no-smaller e l = record { kept = λ k h. refl; reply = λ w Γ ok b h m k. let q = h e in let z : ⊥ = omega arith in absurd z }
+module _ {words ts : List ℕ} {d i : ℕ} where
+  walk-kept : {before after ms es : List ℕ} → Walk words ts d i before after ms es → Agree d before after
+  walk-kept no-child = agree-refl d _
+  walk-kept (next-child a w) = agree-trans (a .kept) (omega arith) (walk-kept w)
 
-  -- a field that is no child counts as D
-  pub no-child : ((y : Checked Ty) → fieldCheck u y ≡ typed D) → Answers n x stack stack d i u f (Is (record { 0 = 1 }))
-  unfolding Agree
-  no-child e = record { kept = λ k h. refl; reply = λ w Γ ok b h m k. rw (e _) (late-stands _) }
+  walk-stands :
+      {s : Script} {Γ : Context} → Lent s words ts → i < nodeCount s → {before after ms es : List ℕ} →
+      Walk words ts d i before after ms es → Binds s before d Γ → Below i ms → d + heights (terms (tree s) ms) ≤ length before →
+      Stand s Γ es (terms (tree s) ms)
+  unfolding terms heights All
+  walk-stands l h no-child b u r = none-left
+  walk-stands {s} {Γ} l h (next-child a w) b u r =
+      and-then (a .reply (u .0) .reply s Γ l b (omega (arith, u .0)) (omega arith))
+      (walk-stands l h w (binds-agree b (a .kept)) (u .1) (omega (arith, a .kept .same)))
 
--- the same answer at a field of the same number
-pub at-field-of :
-    {n : Counts} {x : List ℤ → Tables} {before after : List ℕ} {d i f g : ℕ} {u : Use} {r : Typed} →
-    Answers n x before after d i u f r → f ≡ g → Answers n x before after d i u g r
-at-field-of a e = rw (← e) a
-
--- a node's check from what stands at its fields
-module _ (n : Counts) (x : Tables) (ok : Passes n x) (i : ℕ) (l : i < nodeCount (scriptOf n x)) where
-  pub smaller :
-      (j : ℕ) → j < 3 → useOf (getD (x .kinds) i 0) j ≡ Child → getD (getD (x .a) i 0 ∷ getD (x .b) i 0 ∷ getD (x .c) i 0 ∷ []) j 0 < i
-  unfolding rowNode fields
-  smaller j m =
-      subst (λ (nd : Node). useOf (nd .kind) j ≡ Child → getD (fields nd) j 0 < i)
-      (node-row n x i (omega (arith, node-count n x)))
-      (child-below (scriptOf n x) (passes-sound n x ok) i l j m)
-
-  abbrev pub within : Context → Context
-  within Γ = innerContext (scriptOf n x) (nodeAt (scriptOf n x) i) (useOf (getD (x .kinds) i 0) 0) Γ
-
-  abbrev pub at-field : Context → ℕ → ℕ → Checked Ty
-  at-field Γ j f = fieldCheck (useOf (getD (x .kinds) i 0) j) (check (scriptOf n x) (within Γ) (tree (scriptOf n x) f))
-
-  node-stands :
-      (Γ : Context) {f g h o : Typed} → Stands (scriptOf n x) f (at-field Γ 0 (getD (x .a) i 0)) →
-      Stands (scriptOf n x) g (at-field Γ 1 (getD (x .b) i 0)) → Stands (scriptOf n x) h (at-field Γ 2 (getD (x .c) i 0)) →
-      Stands (scriptOf n x) o
-      (rule i
-      (λ (p : Ty × (Ty × Ty)).
-      stepRule (scriptOf n x) (within Γ) (rowOf (nodeAt (scriptOf n x) i) .step) (nodeAt (scriptOf n x) i) (p .0) (p .1 .0)
-      (p .1 .1))
-      (both (meaning (scriptOf n x) f) (both (meaning (scriptOf n x) g) (meaning (scriptOf n x) h)))) →
-      Stands (scriptOf n x) o (check (scriptOf n x) Γ (tree (scriptOf n x) i))
-  unfolding rowNode
-  node-stands Γ a b c d =
-      let e = node-row n x i (omega (arith, node-count n x)) in
-      rw (check-fields (scriptOf n x) (passes-sound n x ok) i l Γ, e) (rw (a .said, b .said, c .said, e) at d)
-
-module _ {n : Counts} {p r is ks na nb nc : List ℕ} where
-  -- Theorem: the answer of a node whose fields are answered.
+  -- Theorem: the answer of a node whose children are answered.
   pub at-node :
-      {before after s₁ s₂ s₃ : List ℕ} {d e i : ℕ} {f g h o : Typed} →
-      Enters (useOf (getD ks i 0) 0) i d e before s₁ →
-      Answers n (tablesOf p r is ks na nb nc) s₁ s₂ e i (useOf (getD ks i 0) 0) (getD na i 0) f →
-      Answers n (tablesOf p r is ks na nb nc) s₂ s₃ e i (useOf (getD ks i 0) 1) (getD nb i 0) g →
-      Answers n (tablesOf p r is ks na nb nc) s₃ after e i (useOf (getD ks i 0) 2) (getD nc i 0) h →
-      length s₁ ≡ length before → length s₂ ≡ length s₁ → length s₃ ≡ length s₂ →
-      Stepped n (tablesOf p r is ks na nb) after e i f g h o →
-      Answers n (tablesOf p r is ks na nb nc) before after d (i + 1) Child i o
-  unfolding Agree fieldCheck
-  at-node {before} {after} {s₁} {s₂} {s₃} {d} {e} {i} {f} {g} {h} {o} t a b c l m q st =
-      record {
-        kept = λ k z.
-            t .kept k z
-            ∙ a .kept k (omega (arith, t .deep .0)) ∙ b .kept k (omega (arith, t .deep .0)) ∙ c .kept k (omega (arith, t .deep .0));
-        reply = λ w Γ ok y _ v j.
-            let x = tablesOf p r is ks na nb nc w in
-            let few = t .deep .1 in
-            let y₁ = t .binds (scriptOf n x) Γ y (omega arith) (omega arith) in
-            let y₂ = binds-agree {ys = s₂} y₁ (a .kept) in
-            let y₃ = binds-agree {ys = s₃} y₂ (b .kept) in
-            let y₄ = binds-agree {ys = after} y₃ (c .kept) in
-            let l₁ : e + i ≤ length s₁ = omega arith in
-            let l₂ : e + i ≤ length s₂ = omega arith in
-            let l₃ : e + i ≤ length s₃ = omega arith in
-            let under = smaller n x ok i (omega arith) in
-            let a′ = a .reply w _ ok y₁ (under 0 (omega arith)) (omega arith) l₁ in
-            let b′ = b .reply w _ ok y₂ (under 1 (omega arith)) (omega arith) l₂ in
-            let c′ = c .reply w _ ok y₃ (under 2 (omega arith)) (omega arith) l₃ in
-            node-stands n x ok i (omega arith) Γ a′ b′ c′ (st .reply nc w _ ok y₄ (omega arith) (a′ .known) (b′ .known) (c′ .known));
-      }
+      {before after ms es : List ℕ} {w k r : ℕ} → w ≡ getD words i 0 → k ≡ wordKind w → (k ≡ 0 → ⊥) →
+      childFields (getD rows k blankRow .uses) (wordA w ∷ wordB w ∷ wordC w ∷ []) ≡ ms → Walk words ts d i before after ms es →
+      Ruled ts k i es r → Answers words ts before after d i r
+  unfolding rowOf nodeAt
+  at-node {before} {ms} {es} {w} {k} e q n f walk rule = record {
+    kept = walk-kept walk;
+    reply = λ s Γ l b h room.
+        let ok = sound s (l .passes) in
+        let c : children (nodeAt s i) ≡ ms = node-children l h e (λ z. n (q ∙ z)) ∙ rw (← q) f in
+        let g : nodeAt s i .kind ≡ k = node-kind l h e ∙ sym q in
+        let high : height (tree s i) ≡ suc (heights (terms (tree s) ms)) = tree-height s ok i h ∙ rw c in
+        rw (tree-node s ok i h, c, g)
+        (rule .reply words s Γ (nodeAt s i) _ l h (walk-stands l h walk b (rw c at (below-parent s ok i h)) (omega arith)));
+  }
 
--- a root that is D passes
-pub root-passes : {r : Typed} {k : TypeNumber} (i : NodeNumber) → r ≡ Is k → k .0 ≡ 1 → none ≡ rootAnswer i r
-unfolding rootAnswer
-root-passes i e f = rw (e, eq-eqb _ _ f)
+-- which fields are children, and that none is a constant's kind
 
--- Theorem: the root's answer, under no binders, gives refusals 9, 10 and 11.
-pub at-root :
-    {n : Counts} {x : List ℤ → Tables} {before after : List ℕ} {i : NodeNumber} {r : Typed} →
-    Answers n x before after 0 (i .0 + 1) Child (i .0) r → i .0 ≡ n .nodes - 1 → 4096 ≤ length before → (w : List ℤ) →
-    Passes n (x w) → rootAnswer i r ≡ annotationRefusal (scriptOf n (x w))
-unfolding annotationRefusal checkedRoot root fieldCheck
-at-root {n} {x} {before} {after} {i} {r} a e l w ok =
-    let sound = passes-sound n (x w) ok in
-    let count = node-count n (x w) in
-    let q = a .reply w _ ok no-binder (λ _. omega arith) (omega (arith, sound .some-node)) (omega (arith, sound .some-node, sound .few-nodes)) in
-    let f : i .0 ≡ nodeCount (scriptOf n (x w)) - 1 = omega arith in
-    root-stands (scriptOf n (x w)) sound i r (q .known) ∙ rw (q .said, f)
+one-field : {k : ℕ} (x y z : ℕ) → OneChild k → childFields (getD rows k blankRow .uses) (x ∷ y ∷ z ∷ []) ≡ x ∷ []
+unfolding rows childFields ifChild
+one-field x y z lifts = refl
+one-field x y z fixes = refl
+one-field x y z fixes-late = refl
+
+two-fields : {k : ℕ} (x y z : ℕ) → TwoChildren k → childFields (getD rows k blankRow .uses) (x ∷ y ∷ z ∷ []) ≡ x ∷ y ∷ []
+unfolding rows childFields ifChild
+two-fields x y z applies = refl
+two-fields x y z operates = refl
+two-fields x y z applies-late = refl
+two-fields x y z operates-late = refl
+
+three-fields : {k : ℕ} (x y z : ℕ) → ThreeChildren k → childFields (getD rows k blankRow .uses) (x ∷ y ∷ z ∷ []) ≡ x ∷ y ∷ z ∷ []
+unfolding rows childFields ifChild
+three-fields x y z chooses = refl
+three-fields x y z chooses-late = refl
+
+one-some : {k : ℕ} → OneChild k → 0 < k
+one-some lifts = omega arith
+one-some fixes = omega arith
+one-some fixes-late = omega arith
+
+two-some : {k : ℕ} → TwoChildren k → 0 < k
+two-some applies = omega arith
+two-some operates = omega arith
+two-some applies-late = omega arith
+two-some operates-late = omega arith
+
+three-some : {k : ℕ} → ThreeChildren k → 0 < k
+three-some chooses = omega arith
+three-some chooses-late = omega arith
+
+-- a node's word has a kind of an arm
+module _ {words : List ℕ} {i w k : ℕ} (o : w ≡ getD words i 0) (e : k ≡ wordKind w) where
+  pub of-one : (k ≡ 2) ⊎ ((k ≡ 5) ⊎ (k ≡ 10)) → WordOf words i w OneChild
+  of-one (inl q) = record { word = o; kind = rw (← e, q) lifts }
+  of-one (inr (inl q)) = record { word = o; kind = rw (← e, q) fixes }
+  of-one (inr (inr q)) = record { word = o; kind = rw (← e, q) fixes-late }
+
+  pub of-two : (k ≡ 4) ⊎ ((k ≡ 7) ⊎ ((k ≡ 9) ⊎ (k ≡ 12))) → WordOf words i w TwoChildren
+  of-two (inl q) = record { word = o; kind = rw (← e, q) applies }
+  of-two (inr (inl q)) = record { word = o; kind = rw (← e, q) operates }
+  of-two (inr (inr (inl q))) = record { word = o; kind = rw (← e, q) applies-late }
+  of-two (inr (inr (inr q))) = record { word = o; kind = rw (← e, q) operates-late }
+
+  pub of-three : (k ≡ 6) ⊎ (k ≡ 11) → WordOf words i w ThreeChildren
+  of-three (inl q) = record { word = o; kind = rw (← e, q) chooses }
+  of-three (inr q) = record { word = o; kind = rw (← e, q) chooses-late }
+
+  pub of-binder : (k ≡ 3) ⊎ (k ≡ 8) → WordOf words i w BindsName
+  of-binder (inl q) = record { word = o; kind = rw (← e, q) abstracts }
+  of-binder (inr q) = record { word = o; kind = rw (← e, q) abstracts-late }
+
+module _ {words ts : List ℕ} {d i w : ℕ} where
+  pub at-one :
+      {before after : List ℕ} {k m e r : ℕ} → WordOf words i w OneChild → k ≡ wordKind w → ChildAnswers words ts before after d i m e →
+      m ≡ wordA w → Ruled ts k i (e ∷ []) r → Answers words ts before after d i r
+  at-one {k} o q a x rule =
+      let t : OneChild k = rw q (o .kind) in
+      let n = one-some t in
+      at-node (o .word) q (λ z. omega arith) (one-field _ _ _ t) (next-child (rw x at a) no-child) rule
+
+  pub at-two :
+      {before between after : List ℕ} {k m p e f r : ℕ} → WordOf words i w TwoChildren → k ≡ wordKind w →
+      ChildAnswers words ts before between d i m e → ChildAnswers words ts between after d i p f → m ≡ wordA w → p ≡ wordB w →
+      Ruled ts k i (e ∷ f ∷ []) r → Answers words ts before after d i r
+  at-two {k} o q a b x y rule =
+      let t : TwoChildren k = rw q (o .kind) in
+      let n = two-some t in
+      at-node (o .word) q (λ z. omega arith) (two-fields _ _ _ t) (next-child (rw x at a) (next-child (rw y at b) no-child)) rule
+
+  pub at-three :
+      {before first second after : List ℕ} {k m p n e f g r : ℕ} → WordOf words i w ThreeChildren → k ≡ wordKind w →
+      ChildAnswers words ts before first d i m e → ChildAnswers words ts first second d i p f → ChildAnswers words ts second after d i n g →
+      m ≡ wordA w → p ≡ wordB w → n ≡ wordC w → Ruled ts k i (e ∷ f ∷ g ∷ []) r → Answers words ts before after d i r
+  at-three {k} o q a b c x y z rule =
+      let t : ThreeChildren k = rw q (o .kind) in
+      let n = three-some t in
+      at-node (o .word) q (λ v. omega arith) (three-fields _ _ _ t)
+      (next-child (rw x at a) (next-child (rw y at b) (next-child (rw z at c) no-child))) rule
+
+-- ---- a binder
+
+body-field : {k : ℕ} (x y z : ℕ) → BindsName k → childFields (getD rows k blankRow .uses) (x ∷ y ∷ z ∷ []) ≡ z ∷ []
+unfolding rows childFields ifChild
+body-field x y z abstracts = refl
+body-field x y z abstracts-late = refl
+
+binder-some : {k : ℕ} → BindsName k → 0 < k
+binder-some abstracts = omega arith
+binder-some abstracts-late = omega arith
+
+module _ {words ts before pushed after : List ℕ} {d inner i w p v m e : ℕ}
+    (o : w ≡ getD words i 0) (pairs : Pair v (wordA w) p) (push : Pushed v d inner before pushed) (f : m ≡ wordC w)
+    (a : ChildAnswers words ts pushed after inner i m e) where
+  module _ (s : Script) (Γ : Context) (l : Lent s words ts) (b : Binds s before d Γ) (h : i < nodeCount s)
+      (room : d + height (tree s i) ≤ length before) (n : BindsName (wordKind w)) where
+    body-children : children (nodeAt s i) ≡ m ∷ []
+    body-children =
+        let z = binder-some n in
+        node-children l h o (λ q. omega arith) ∙ body-field _ _ _ n ∙ rw f
+
+    -- the body under the binder
+    body-stands : p < typeCount s → Stands s e (check s (bind (wordA w) (typeOf s p) Γ) (tree s m))
+    unfolding terms heights All
+    body-stands known =
+        let ok = sound s (l .passes) in
+        let high : height (tree s i) ≡ suc (max (height (tree s m)) 0) = tree-height s ok i h ∙ rw body-children in
+        let (x, _) = push .top (omega arith) in
+        let u = rw body-children at (below-parent s ok i h) in
+        a .reply (u .0) .reply s _ l (binds-more push (omega arith) pairs known b) (omega (arith, u .0)) (omega (arith, push .kept .same))
+
+    early-tree : wordKind w ≡ 3 → tree s i ≡ lam i (wordA w) (wordB w) (tree s m)
+    unfolding rowOf rows build childAt terms nodeAt
+    early-tree q =
+        let (x, y, _) = node-field l h o (λ z. omega arith) in
+        tree-node s (sound s (l .passes)) i h ∙ rw (body-children, node-kind l h o, q, ← x, ← y)
+
+    late-tree : wordKind w ≡ 8 → tree s i ≡ dlam i (wordA w) (tree s m)
+    unfolding rowOf rows build childAt terms nodeAt
+    late-tree q =
+        let (x, _, _) = node-field l h o (λ z. omega arith) in
+        tree-node s (sound s (l .passes)) i h ∙ rw (body-children, node-kind l h o, q, ← x)
+
+    binder-stands :
+        {k r : ℕ} → p ≡ pick (eqb (wordKind w) 3) (wordB w) 1 → k ≡ wordKind w → BindsName k → BinderRuled ts k p i e r →
+        Stands s r (check s Γ (tree s i))
+    unfolding typeCount
+    binder-stands pe q abstracts rule =
+        let x : p ≡ wordB w = rw (← q) at pe in
+        let (_, y, _) = node-field l h o (λ z. omega arith) in
+        let known : p < typeCount s = omega (arith, named-type s (sound s (l .passes)) i h (node-kind l h o ∙ sym q)) in
+        rw (early-tree (sym q), ← x) (rule .early words s Γ (wordA w) (tree s m) refl l h known (body-stands known))
+    binder-stands pe q abstracts-late rule =
+        let x : p ≡ 1 = rw (← q) at pe in
+        rw (late-tree (sym q)) (rule .late words s Γ (wordA w) (tree s m) refl l h x (body-stands (omega arith)))
+
+  -- Theorem: the answer of a binder whose body is answered.
+  pub at-binder :
+      {k r : ℕ} → BindsName (wordKind w) → p ≡ pick (eqb (wordKind w) 3) (wordB w) 1 → k ≡ wordKind w → BinderRuled ts k p i e r →
+      Answers words ts before after d i r
+  at-binder n pe q rule = record {
+    kept = agree-trans (push .kept) (push .least) (a .kept);
+    reply = λ s Γ l b h room. binder-stands s Γ l b h room n pe q (rw q n) rule;
+  }
+
+-- ---- a node without children
+
+-- a kind below 13 that has no arm of its own is a constant's
+last-kind :
+    (k : ℕ) → k < 13 → (k ≡ 1 → ⊥) → ((k ≡ 2) ⊎ ((k ≡ 5) ⊎ (k ≡ 10)) → ⊥) → ((k ≡ 3) ⊎ (k ≡ 8) → ⊥) →
+    ((k ≡ 4) ⊎ ((k ≡ 7) ⊎ ((k ≡ 9) ⊎ (k ≡ 12))) → ⊥) → ((k ≡ 6) ⊎ (k ≡ 11) → ⊥) → k ≡ 0
+last-kind zero h a b c d e = refl
+last-kind (suc zero) h a b c d e = absurd (a refl)
+last-kind (suc (suc zero)) h a b c d e = absurd (b (inl refl))
+last-kind (suc (suc (suc zero))) h a b c d e = absurd (c (inl refl))
+last-kind (suc (suc (suc (suc zero)))) h a b c d e = absurd (d (inl refl))
+last-kind (suc (suc (suc (suc (suc zero))))) h a b c d e = absurd (b (inr (inl refl)))
+last-kind (suc (suc (suc (suc (suc (suc zero)))))) h a b c d e = absurd (e (inl refl))
+last-kind (suc (suc (suc (suc (suc (suc (suc zero))))))) h a b c d e = absurd (d (inr (inl refl)))
+last-kind (suc (suc (suc (suc (suc (suc (suc (suc zero)))))))) h a b c d e = absurd (c (inr refl))
+last-kind (suc (suc (suc (suc (suc (suc (suc (suc (suc zero))))))))) h a b c d e = absurd (d (inr (inr (inl refl))))
+last-kind (suc (suc (suc (suc (suc (suc (suc (suc (suc (suc zero)))))))))) h a b c d e = absurd (b (inr (inr refl)))
+last-kind (suc (suc (suc (suc (suc (suc (suc (suc (suc (suc (suc zero))))))))))) h a b c d e = absurd (e (inr refl))
+last-kind (suc (suc (suc (suc (suc (suc (suc (suc (suc (suc (suc (suc zero)))))))))))) h a b c d e = absurd (d (inr (inr (inr refl))))
+last-kind (suc (suc (suc (suc (suc (suc (suc (suc (suc (suc (suc (suc (suc k))))))))))))) h a b c d e = let z : ⊥ = omega arith in absurd z
+
+module _ {words ts stack : List ℕ} {d i w : ℕ} (o : w ≡ getD words i 0) where
+  pub at-variable :
+      {x r : ℕ} → wordKind w ≡ 1 → x ≡ wordA w → (d ≤ length stack → r ≡ bound stack x i d) → Answers words ts stack stack d i r
+  unfolding rowOf rows build nodeAt check
+  at-variable q f g = record {
+    kept = agree-refl d stack;
+    reply = λ s Γ l b h room.
+        let ok = sound s (l .passes) in
+        let (x, _, _) = node-field l h o (λ z. omega arith) in
+        rw (tree-node s ok i h, node-kind l h o, q, ← x, ← f, g (omega arith))
+        (bound-stands s ok i _ (omega (arith, ok .few-nodes)) b);
+  }
+
+  pub at-constant :
+      {k r : ℕ} → k ≡ wordKind w → (k ≡ 1 → ⊥) → ((k ≡ 2) ⊎ ((k ≡ 5) ⊎ (k ≡ 10)) → ⊥) → ((k ≡ 3) ⊎ (k ≡ 8) → ⊥) →
+      ((k ≡ 4) ⊎ ((k ≡ 7) ⊎ ((k ≡ 9) ⊎ (k ≡ 12))) → ⊥) → ((k ≡ 6) ⊎ (k ≡ 11) → ⊥) → r ≡ typeAnswer 0 →
+      Answers words ts stack stack d i r
+  unfolding rowOf rows build nodeAt check typeCount
+  at-constant {k} q a b c e f g = record {
+    kept = agree-refl d stack;
+    reply = λ s Γ l _ h room.
+        let ok = sound s (l .passes) in
+        let n = node-kind l h o in
+        let z = kind-known s ok i h in
+        let m : wordKind w ≡ 0 = sym q ∙ last-kind k (omega arith) a b c e f in
+        rw (tree-node s ok i h, n, m, g, ← type-zero s) (type-stands s ok 0 (omega arith));
+  }
+
+-- ---- a child
+
+module _ {words ts before after : List ℕ} {d i m r : ℕ} where
+  pub at-child : Answers words ts before after d m r → ChildAnswers words ts before after d i m r
+  at-child a = record { kept = a .kept; reply = λ _. a }
+
+pub no-smaller : {words ts stack : List ℕ} {d i m r : ℕ} → i ≤ m → ChildAnswers words ts stack stack d i m r
+no-smaller l = record { kept = agree-refl _ _; reply = λ h. let z : ⊥ = omega arith in absurd z }

@@ -2,7 +2,8 @@
 -- which function types are listed, and what the rules on types say of numbers. Assumes nothing.
 use Prim.Native.Nat.{ℕ, zero, suc, _+_, _-_, _≤_, _<_}
 use mathlib.Core.Path.{_≡_, refl, sym, _∙_}
-use mathlib.Core.Bool.{Bool, true, false, _&&_}
+use mathlib.Core.Bool.{Bool, true, false, _&&_, and-true}
+use mathlib.Core.List.{[], _∷_}
 use mathlib.Core.Logic.{⊎-elim, _⊎_, inl, inr}
 use mathlib.Core.Option.{Option, none, some}
 use native.Mathlib.Omega.{arith}
@@ -13,12 +14,12 @@ use borrow.Author.Tests.{ltb-true, eq-eqb, ne-eqb, eqb-true, le-leb, lt-leb, leb
 use Rattle.lambdamix.specs.Script.{Script, FunctionType}
 use Rattle.lambdamix.specs.Falling.{falling, fallingBy}
 use Rattle.lambdamix.specs.Types.{Ty, S, D, _⇒_, sameType, blankType, typeBy, typeStep, typeOf, typeCount, someType, listed}
-use Rattle.lambdamix.specs.Checker.{provided, liftRule, applyRule, fixRule, ifRule, opRule}
+use Rattle.lambdamix.specs.Checker.{provided, liftRule, applyRule, fixRule, ifRule, opRule, abstrDynRule, allDynamic, dynRule}
 use Rattle.lambdamix.proofs.Falling.{falling-step, below-at}
 use Rattle.lambdamix.proofs.Tests.{and-both, and-intro, or-cases, or-left, or-right, holds-or-fails}
 use Rattle.script.specs.Refusals.{samePair, otherPair, isNone, typeFits}
-use Rattle.annotation.specs.Fields.{lateRule}
-use Rattle.annotation.proofs.Passing.{Sound, none-fails}
+use Rattle.script.proofs.RefusalLaws.{passes}
+use Rattle.annotation.proofs.Passing.{Sound}
 
 no-type : (o : Option ℕ) → isNone o ≡ true → o ≡ none
 unfolding isNone
@@ -90,7 +91,7 @@ module _ (s : Script) (ok : Sound s) where
   once i j l h =
       let (_, q) = and-both (ltb (pair s j .parameter) (2 + j)) _ (ok .types-fit j h) in
       let (_, r) = and-both (ltb (pair s j .result) (2 + j)) _ q in
-      not-true _ (none-fails (otherPair (pair s) j) 0 j (no-type _ r) i (omega arith) (omega arith))
+      not-true _ (passes (otherPair (pair s) j) j (no-type _ r) i l)
 
   pub function-type :
       (j : ℕ) → j < length (s .types) → typeOf s (2 + j) ≡ typeOf s (pair s j .parameter) ⇒ typeOf s (pair s j .result)
@@ -231,7 +232,7 @@ module _ (s : Script) (ok : Sound s) where
   unfolding typeCount
   same-late t h = rw (← type-one s) (same-number t 1 h (omega arith))
 
-  -- (Lift), (If), (Op) and the late kinds' rule on numbers
+  -- (Lift), (If) and (Op) on numbers
   pub lift-numbers : (t : ℕ) → t < typeCount s → liftRule (typeOf s t) ≡ provided (eqb t 0) (typeOf s 1)
   unfolding liftRule
   lift-numbers t h = rw (same-early t h, type-one s)
@@ -248,8 +249,23 @@ module _ (s : Script) (ok : Sound s) where
   unfolding opRule
   op-numbers t u h k = rw (same-early t h, same-early u k, type-zero s)
 
-  pub late-numbers :
+  -- the late kinds' rules on numbers
+  pub late-one : (t : ℕ) → t < typeCount s → dynRule 1 (typeOf s t ∷ []) ≡ provided (eqb t 1) (typeOf s 1)
+  unfolding dynRule allDynamic
+  late-one t h = rw (same-late t h, and-true (eqb t 1), type-one s)
+
+  pub late-two :
+      (t u : ℕ) → t < typeCount s → u < typeCount s →
+      dynRule 2 (typeOf s t ∷ typeOf s u ∷ []) ≡ provided (eqb t 1 && eqb u 1) (typeOf s 1)
+  unfolding dynRule allDynamic
+  late-two t u h k = rw (same-late t h, same-late u k, and-true (eqb u 1), type-one s)
+
+  pub late-three :
       (t u v : ℕ) → t < typeCount s → u < typeCount s → v < typeCount s →
-      lateRule (typeOf s t) (typeOf s u) (typeOf s v) ≡ provided (eqb t 1 && (eqb u 1 && eqb v 1)) (typeOf s 1)
-  unfolding lateRule
-  late-numbers t u v h k l = rw (same-late t h, same-late u k, same-late v l, type-one s)
+      dynRule 3 (typeOf s t ∷ typeOf s u ∷ typeOf s v ∷ []) ≡ provided (eqb t 1 && (eqb u 1 && eqb v 1)) (typeOf s 1)
+  unfolding dynRule allDynamic
+  late-three t u v h k l = rw (same-late t h, same-late u k, same-late v l, and-true (eqb v 1), type-one s)
+
+  pub late-function : (t : ℕ) → t < typeCount s → abstrDynRule (typeOf s t) ≡ provided (eqb t 1) (typeOf s 1)
+  unfolding abstrDynRule
+  late-function t h = rw (same-late t h, type-one s)

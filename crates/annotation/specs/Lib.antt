@@ -1,3 +1,3 @@
 pub mod Checks
-pub mod Fields
 pub mod Answers
+pub mod Walks

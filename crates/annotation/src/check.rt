@@ -1,11 +1,12 @@
 // The checker: refusals 1 to 8 as the file of the tables, then 9 to 11.
 use crate::typing::annotation_refusal;
-use file::tables::tables_refusal;
+use file::tables::tables_packed;
 use script::Counts;
 use script::Verdict;
+use script::limits::MAX_NODES;
 ghost use mathlib.Core.Path.{_≡_};
 ghost use Rattle.script.specs.Replies.{refusalOf};
-ghost use Rattle.annotation.specs.Answers.{tablesOf};
+ghost use Rattle.script.specs.Columns.{tablesOf};
 ghost use Rattle.annotation.specs.Checks.{checkRefusal};
 
 // Every call is answered, and no lent table is touched.
@@ -22,8 +23,20 @@ pub fn check(
 ) -> Verdict
     ensures { λ r. ⌜ refusalOf r ≡ checkRefusal (n .types) (n .inputs) (n .nodes) (tablesOf (now (parameters .entry)) (now (results .entry)) (now (inputs .entry)) (now (kinds .entry)) (now (a .entry)) (now (b .entry)) (now (c .entry)) (now (values .entry))) ⌝ }
 {
-    match tables_refusal(n, parameters, results, inputs, kinds, a, b, c, values) {
+    let mut words = [0u64; MAX_NODES];
+    match tables_packed(
+        n,
+        parameters,
+        results,
+        inputs,
+        kinds,
+        a,
+        b,
+        c,
+        values,
+        &mut words,
+    ) {
         Verdict::Refused(f) => Verdict::Refused(f),
-        Verdict::Passed => annotation_refusal(n, parameters, results, inputs, kinds, a, b, c),
+        Verdict::Passed => annotation_refusal(n, parameters, results, inputs, &words),
     }
 }

@@ -1,74 +1,92 @@
-// The types of a script's nodes, found by recursion on falling node numbers: refusals 9, 10 and 11.
-use lambdamix::Use;
+// The types of a script's nodes, found by recursion on falling node numbers: refusals 9, 10 and 11. The recursion passes on plain
+// numbers and references to arrays, and its answer is one number: anything else, a tuple struct too, would go through memory.
 use script::Counts;
 use script::Name;
 use script::NodeNumber;
 use script::Refusal;
 use script::TypeNumber;
 use script::Verdict;
-use script::column::at8;
 use script::column::at16;
-use script::kinds::use_of;
+use script::limits::MAX_HEIGHT;
+use script::limits::MAX_INPUTS;
 use script::limits::MAX_NODES;
-ghost use Prim.Native.Nat.{_+_, _-_, _≤_};
+use script::limits::MAX_TYPES;
+use script::word::field_a;
+use script::word::field_b;
+use script::word::field_c;
+use script::word::kind;
+use script::word::word_at;
+ghost use Prim.Native.Nat.{_+_, _-_, _*_, _/_, _%_, _≤_, _<_};
 ghost use mathlib.Core.Path.{_≡_};
 ghost use mathlib.Core.Bool.{_&&_};
-ghost use mathlib.Core.List.{List};
-ghost use lib.IntN.{ℤ};
-ghost use lib.ListN.{getD};
-ghost use lib.Dec.{eqb, leb, ltb};
-ghost use Rattle.lambdamix.specs.declared.Use.the-variants.{Binder, Child};
-ghost use Rattle.lambdamix.specs.Checker.{annotationRefusal};
-ghost use Rattle.script.specs.Kinds.{useOf};
+ghost use mathlib.Core.List.{[], _∷_};
+ghost use lib.ListN.{getD, length, replicate, set};
+ghost use lib.Dec.{eqb, leb};
 ghost use Rattle.script.specs.Replies.{refusalOf};
-ghost use Rattle.annotation.specs.Fields.{parameterBy};
-ghost use Rattle.annotation.specs.Answers.{Answers, Enters, Listing, Passes, Ruled, Stepped, bound, givenBy, lowest, rootAnswer, scriptOf, tablesOf, typeNumber};
+ghost use Rattle.script.specs.Words.{wordKind, wordB};
+ghost use Rattle.annotation.specs.Answers.{faultAnswer, givenBy, lowest, pick, rootAnswer, typeAnswer};
+ghost use Rattle.annotation.specs.Walks.{Annotated, Answers, BinderRuled, BindsName, Bottom, ChildAnswers, Lists, Listing, OneChild, Pair, Pushed, Ruled, ThreeChildren, TwoChildren, WordOf, bound};
 
-// A node's type, or the number and the node of its lowest fault.
-pub enum Typed {
-    Is(TypeNumber),
-    Fault(u8, NodeNumber),
+// Places of the stack: the inputs, and as many binders as a tree is high.
+const PLACES: usize = MAX_INPUTS + MAX_HEIGHT;
+
+// An answer is a type's number above this one, or below it a fault: 16 times its node plus its number.
+const TYPE: u32 = 1048576;
+
+// What a place past the listed types holds: no pair of types.
+const UNLISTED: u32 = 4294967295;
+
+// A listed type, its parameter over its result, or a binder, its name over its type.
+fn pair(a: u16, b: u16) -> u32
+    ensures { λ r. ⌜ Pair r a b ⌝ }
+    ensures word { λ r. ⌜ r ≡ 65536 * a + b ⌝ }
+{
+    65536 * (a as u32) + (b as u32)
 }
 
-// The lower of two faults; where only one answer is a fault, that one.
-fn lower(e: Typed, f: Typed) -> Typed
+fn high(w: u32) -> u16
+    ensures { λ r. ⌜ r ≡ w / 65536 ⌝ }
+{
+    (w / 65536) as u16
+}
+
+fn low(w: u32) -> u16
+    ensures { λ r. ⌜ r ≡ w % 65536 ⌝ }
+{
+    (w % 65536) as u16
+}
+
+fn typed(t: TypeNumber) -> u32
+    ensures { λ r. ⌜ r ≡ typeAnswer (t .0) ⌝ }
+{
+    TYPE + (t.0 as u32)
+}
+
+fn fault(number: u8, i: NodeNumber) -> u32
+    ensures { λ r. ⌜ r ≡ faultAnswer number (i .0) ⌝ }
+{
+    16 * (i.0 as u32) + (number as u32)
+}
+
+// The type of an answer that is no fault.
+fn type_in(e: u32) -> TypeNumber
+    ensures { λ r. ⌜ r .0 ≡ e % 65536 ⌝ }
+{
+    TypeNumber(low(e))
+}
+
+// The fault at the lower node; where only one answer is a fault, that one.
+fn lower(e: u32, f: u32) -> u32
     ensures { λ r. ⌜ r ≡ lowest e f ⌝ }
 {
-    match e {
-        Typed::Is(_) => f,
-        Typed::Fault(_, i) => match f {
-            Typed::Is(_) => e,
-            Typed::Fault(_, j) => { if i.0 <= j.0 { e } else { f } }
-        },
-    }
-}
-
-// The number of a type that was found.
-fn number_of(t: Typed) -> TypeNumber
-    ensures { λ r. ⌜ r ≡ typeNumber t ⌝ }
-{
-    match t {
-        Typed::Is(k) => k,
-        Typed::Fault(_, _) => TypeNumber(0),
-    }
-}
-
-// The type of a binder's parameter: the one that its node names, or D.
-fn parameter(kinds: &[u8], b: &[u16], j: NodeNumber) -> TypeNumber
-    ensures { λ r. ⌜ r ≡ record { 0 = parameterBy (useOf (getD (now (kinds .entry)) (j .0) 0) 1) (getD (now (b .entry)) (j .0) 0) } ⌝ }
-{
-    let at = j.0 as usize;
-    match use_of(at8(kinds, at), 1) {
-        Use::ParameterType => TypeNumber(at16(b, at)),
-        _ => TypeNumber(1),
-    }
+    if e / 16 <= f / 16 { e } else { f }
 }
 
 // A type where a test holds, else a fault 9 at node i.
-fn given(ok: bool, t: TypeNumber, i: NodeNumber) -> Typed
-    ensures { λ r. ⌜ r ≡ givenBy ok t i ⌝ }
+fn given(ok: bool, t: TypeNumber, i: NodeNumber) -> u32
+    ensures { λ r. ⌜ r ≡ givenBy ok (t .0) (i .0) ⌝ }
 {
-    if ok { Typed::Is(t) } else { Typed::Fault(9, i) }
+    if ok { typed(t) } else { fault(9, i) }
 }
 
 fn both(p: bool, q: bool) -> bool
@@ -77,257 +95,324 @@ fn both(p: bool, q: bool) -> bool
     if p { q } else { false }
 }
 
-// A name's type among the inputs.
-fn input(count: u16, inputs: &[u16], x: Name, i: NodeNumber) -> Typed
-    ensures { λ r. ⌜ r ≡ givenBy (ltb (x .0) count) (record { 0 = getD (now (inputs .entry)) (x .0) 0 }) i ⌝ }
+// The word of a listed type, by its number, from 2 on.
+fn listed(types: &[u32], f: TypeNumber) -> u32
+    requires { ⌜ 2 ≤ f .0 ⌝ }
+    ensures { λ r. ⌜ r ≡ getD (now (types .entry)) (f .0 - 2) 0 ⌝ }
 {
-    given(x.0 < count, TypeNumber(at16(inputs, x.0 as usize)), i)
+    let at = (f.0 - 2) as usize;
+    if at < types.len() {
+        return types[at];
+    }
+    0
 }
 
 // Application: a function from t to u and an argument t give u.
-fn application(from: &[u16], to: &[u16], i: NodeNumber, f: TypeNumber, t: TypeNumber) -> Typed
-    ensures { λ r. ⌜ r ≡ givenBy (leb 2 (f .0) && eqb (getD (now (from .entry)) (f .0 - 2) 0) (t .0))
-        (record { 0 = getD (now (to .entry)) (f .0 - 2) 0 }) i ⌝ }
+fn application(types: &[u32], i: NodeNumber, f: TypeNumber, t: TypeNumber) -> u32
+    ensures { λ r. ⌜ r ≡ givenBy (leb 2 (f .0) && eqb (getD (now (types .entry)) (f .0 - 2) 0 / 65536) (t .0))
+        (getD (now (types .entry)) (f .0 - 2) 0 % 65536) (i .0) ⌝ }
 {
     if f.0 < 2 {
-        return Typed::Fault(9, i);
+        return fault(9, i);
     }
-    let at = (f.0 - 2) as usize;
-    given(at16(from, at) == t.0, TypeNumber(at16(to, at)), i)
+    let w = listed(types, f);
+    given(high(w) == t.0, TypeNumber(low(w)), i)
 }
 
 // Fix: a function from a function type to that same type gives it.
-fn fix(from: &[u16], to: &[u16], i: NodeNumber, f: TypeNumber) -> Typed
-    ensures { λ r. ⌜ r ≡ givenBy (leb 2 (f .0) && (leb 2 (getD (now (from .entry)) (f .0 - 2) 0)
-        && eqb (getD (now (from .entry)) (f .0 - 2) 0) (getD (now (to .entry)) (f .0 - 2) 0)))
-        (record { 0 = getD (now (from .entry)) (f .0 - 2) 0 }) i ⌝ }
+fn fix(types: &[u32], i: NodeNumber, f: TypeNumber) -> u32
+    ensures { λ r. ⌜ r ≡ givenBy (leb 2 (f .0) && (leb 2 (getD (now (types .entry)) (f .0 - 2) 0 / 65536)
+        && eqb (getD (now (types .entry)) (f .0 - 2) 0 / 65536) (getD (now (types .entry)) (f .0 - 2) 0 % 65536)))
+        (getD (now (types .entry)) (f .0 - 2) 0 / 65536) (i .0) ⌝ }
 {
     if f.0 < 2 {
-        return Typed::Fault(9, i);
+        return fault(9, i);
     }
-    let at = (f.0 - 2) as usize;
-    let t = at16(from, at);
-    given(both(2 <= t, t == at16(to, at)), TypeNumber(t), i)
-}
-
-// Variable: its binder's type, the innermost first, else an input's. The stack holds the binders' nodes, the innermost last.
-fn variable(
-    n: Counts,
-    inputs: &[u16],
-    kinds: &[u8],
-    a: &[u16],
-    b: &[u16],
-    stack: &[u16],
-    depth: usize,
-    x: Name,
-    i: NodeNumber,
-) -> Typed
-    ensures { λ r. ⌜ r ≡ bound (now (kinds .entry)) (now (a .entry)) (now (b .entry)) (now (stack .entry)) (x .0)
-        (givenBy (ltb (x .0) (n .inputs)) (record { 0 = getD (now (inputs .entry)) (x .0) 0 }) i) depth ⌝ }
-{
-    let mut d = depth;
-    while 0 < d {
-        d -= 1;
-        let j = NodeNumber(at16(stack, d));
-        if at16(a, j.0 as usize) == x.0 {
-            return Typed::Is(parameter(kinds, b, j));
-        }
-    }
-    input(n.inputs, inputs, x, i)
+    let w = listed(types, f);
+    let t = high(w);
+    given(both(2 <= t, t == low(w)), TypeNumber(t), i)
 }
 
 // Function: the type from t to u, which must be listed.
-fn function(
-    types: u16,
-    from: &[u16],
-    to: &[u16],
-    i: NodeNumber,
-    t: TypeNumber,
-    u: TypeNumber,
-) -> Typed
-    ensures { λ r. ⌜ (types ≤ 64 → Listing (now (from .entry)) (now (to .entry)) types (t .0) (u .0) i r) ⌝ }
+fn function(types: &[u32], i: NodeNumber, t: TypeNumber, u: TypeNumber) -> u32
+    ensures { λ r. ⌜ (64 ≤ length (now (types .entry)) → Listing (now (types .entry)) (65536 * t .0 + u .0) (i .0) r) ⌝ }
 {
-    if 64 < types {
-        return Typed::Fault(10, i);
+    if types.len() < MAX_TYPES {
+        return fault(10, i);
     }
-    let mut j: u16 = 0;
-    while j < types {
-        let at = j as usize;
-        if both(at16(from, at) == t.0, at16(to, at) == u.0) {
-            return Typed::Is(TypeNumber(2 + j));
+    let w = pair(t.0, u.0);
+    let mut j: usize = 0;
+    while j < MAX_TYPES {
+        if types[j] == w {
+            return typed(TypeNumber(2 + (j as u16)));
         }
         j += 1;
     }
-    Typed::Fault(10, i)
+    fault(10, i)
 }
 
-// The rule of node i's kind, where its fields have the types t, u and v; a field that is no child counts as D.
-fn own(
-    n: Counts,
-    from: &[u16],
-    to: &[u16],
-    inputs: &[u16],
-    kinds: &[u8],
-    a: &[u16],
-    b: &[u16],
-    stack: &[u16],
-    depth: usize,
-    i: NodeNumber,
-    t: TypeNumber,
-    u: TypeNumber,
-    v: TypeNumber,
-) -> Typed
-    ensures { λ r. ⌜ Ruled n (tablesOf (now (from .entry)) (now (to .entry)) (now (inputs .entry)) (now (kinds .entry))
-        (now (a .entry)) (now (b .entry))) (now (stack .entry)) depth (i .0) (t .0) (u .0) (v .0) r ⌝ }
+// Variable: its binder's type, the innermost first.
+fn variable(stack: &[u32], depth: usize, i: NodeNumber, x: Name) -> u32
+    ensures { λ r. ⌜ (depth ≤ length (now (stack .entry)) → r ≡ bound (now (stack .entry)) (x .0) (i .0) depth) ⌝ }
 {
-    let at = i.0 as usize;
-    match at8(kinds, at) {
-        1 => variable(n, inputs, kinds, a, b, stack, depth, Name(at16(a, at)), i),
+    if stack.len() < depth {
+        return fault(9, i);
+    }
+    let mut d = depth;
+    while 0 < d {
+        d -= 1;
+        let w = stack[d];
+        if high(w) == x.0 {
+            return typed(TypeNumber(low(w)));
+        }
+    }
+    fault(9, i)
+}
+
+// A node with one child: a fault goes first, else the rule of the node's kind.
+fn one_rule(types: &[u32], k: u16, i: NodeNumber, e: u32) -> u32
+    requires { ⌜ OneChild k ⌝ }
+    ensures { λ r. ⌜ Ruled (now (types .entry)) k (i .0) (e ∷ []) r ⌝ }
+{
+    if e < TYPE {
+        return e;
+    }
+    let t = type_in(e);
+    match k {
         2 => given(t.0 == 0, TypeNumber(1), i),
-        3 => function(n.types, from, to, i, TypeNumber(at16(b, at)), v),
-        4 => application(from, to, i, t, u),
-        5 => fix(from, to, i, t),
-        6 => given(both(t.0 == 0, u.0 == v.0), u, i),
-        7 => given(both(t.0 == 0, u.0 == 0), TypeNumber(0), i),
-        8..=12 => given(both(t.0 == 1, both(u.0 == 1, v.0 == 1)), TypeNumber(1), i),
-        _ => Typed::Is(TypeNumber(0)),
+        5 => fix(types, i, t),
+        _ => given(t.0 == 1, TypeNumber(1), i),
     }
 }
 
-// A node's answer from those at its fields: the lowest fault, else what the node's own rule says.
-fn step(
-    n: Counts,
-    from: &[u16],
-    to: &[u16],
-    inputs: &[u16],
-    kinds: &[u8],
-    a: &[u16],
-    b: &[u16],
-    stack: &[u16],
-    depth: usize,
-    i: NodeNumber,
-    first: Typed,
-    second: Typed,
-    third: Typed,
-) -> Typed
-    ensures { λ r. ⌜ Stepped n (tablesOf (now (from .entry)) (now (to .entry)) (now (inputs .entry)) (now (kinds .entry))
-        (now (a .entry)) (now (b .entry))) (now (stack .entry)) depth (i .0) first second third r ⌝ }
+fn two_rule(types: &[u32], k: u16, i: NodeNumber, e: u32, f: u32) -> u32
+    requires { ⌜ TwoChildren k ⌝ }
+    ensures { λ r. ⌜ Ruled (now (types .entry)) k (i .0) (e ∷ f ∷ []) r ⌝ }
 {
-    let fault = lower(first, lower(second, third));
-    let t = number_of(first);
-    let u = number_of(second);
-    let v = number_of(third);
-    match fault {
-        Typed::Fault(_, _) => fault,
-        Typed::Is(_) => own(n, from, to, inputs, kinds, a, b, stack, depth, i, t, u, v),
+    let least = lower(e, f);
+    if least < TYPE {
+        return least;
+    }
+    let t = type_in(e);
+    let u = type_in(f);
+    match k {
+        4 => application(types, i, t, u),
+        7 => given(both(t.0 == 0, u.0 == 0), TypeNumber(0), i),
+        _ => given(both(t.0 == 1, u.0 == 1), TypeNumber(1), i),
     }
 }
 
-// Node i becomes the innermost binder; the stack is one deeper.
-fn push(stack: &mut [u16], depth: usize, i: NodeNumber) -> usize
-    ensures { λ r. ⌜ Enters Binder (i .0) depth r (now (stack .entry)) (now (stack .exit)) ⌝ }
+fn three_rule(types: &[u32], k: u16, i: NodeNumber, e: u32, f: u32, g: u32) -> u32
+    requires { ⌜ ThreeChildren k ⌝ }
+    ensures { λ r. ⌜ Ruled (now (types .entry)) k (i .0) (e ∷ f ∷ g ∷ []) r ⌝ }
+{
+    let least = lower(e, lower(f, g));
+    if least < TYPE {
+        return least;
+    }
+    let t = type_in(e);
+    let u = type_in(f);
+    let v = type_in(g);
+    if k == 6 {
+        return given(both(t.0 == 0, u.0 == v.0), u, i);
+    }
+    given(both(t.0 == 1, both(u.0 == 1, v.0 == 1)), TypeNumber(1), i)
+}
+
+// A binder, whose parameter has the type p.
+fn binder_rule(types: &[u32], k: u16, p: TypeNumber, i: NodeNumber, e: u32) -> u32
+    ensures { λ r. ⌜ BinderRuled (now (types .entry)) k (p .0) (i .0) e r ⌝ }
+{
+    if e < TYPE {
+        return e;
+    }
+    let u = type_in(e);
+    if k == 3 {
+        return function(types, i, p, u);
+    }
+    given(u.0 == 1, TypeNumber(1), i)
+}
+
+// The type of a binder's parameter: the one that a function names, or D.
+fn parameter(w: u64) -> TypeNumber
+    ensures { λ r. ⌜ r .0 ≡ pick (eqb (wordKind w) 3) (wordB w) 1 ⌝ }
+{
+    match kind(w) {
+        3 => TypeNumber(field_b(w)),
+        _ => TypeNumber(1),
+    }
+}
+
+// A binder on top; the stack is one deeper.
+fn push(stack: &mut [u32], depth: usize, w: u32) -> usize
+    ensures { λ r. ⌜ Pushed w depth r (now (stack .entry)) (now (stack .exit)) ⌝ }
 {
     if depth < stack.len() {
-        stack[depth] = i.0;
+        stack[depth] = w;
         return depth + 1;
     }
     depth
 }
 
-// How deep the children of node i stand, whose field a has the use u.
-fn enter(stack: &mut [u16], depth: usize, u: Use, i: NodeNumber) -> usize
-    ensures { λ r. ⌜ Enters u (i .0) depth r (now (stack .entry)) (now (stack .exit)) ⌝ }
+// A write past the end changes nothing.
+fn put(s: &mut [u32], i: usize, w: u32)
+    ensures { λ r. ⌜ now (s .exit) ≡ set (now (s .entry)) i w ⌝ }
 {
-    match u {
-        Use::Binder => push(stack, depth, i),
-        _ => depth,
+    if i < s.len() {
+        s[i] = w;
     }
 }
 
-// The type of node i under the first stack: its children's first, all of them.
+// The type of node i, under the first binders of the stack.
 fn node(
-    n: Counts,
-    from: &[u16],
-    to: &[u16],
-    inputs: &[u16],
-    kinds: &[u8],
-    a: &[u16],
-    b: &[u16],
-    c: &[u16],
-    stack: &mut [u16],
+    nodes: &[u64; MAX_NODES],
+    types: &[u32; MAX_TYPES],
+    stack: &mut [u32; PLACES],
     depth: usize,
-    i: NodeNumber,
-) -> Typed
-    ensures { λ r. ⌜ Answers n (tablesOf (now (from .entry)) (now (to .entry)) (now (inputs .entry)) (now (kinds .entry))
-        (now (a .entry)) (now (b .entry)) (now (c .entry))) (now (stack .entry)) (now (stack .exit)) depth (i .0 + 1) Child (i .0) r ⌝ }
+    i: u16,
+) -> u32
+    ensures { λ r. ⌜ Answers (now (nodes .entry)) (now (types .entry)) (now (stack .entry)) (now (stack .exit)) depth i r ⌝ }
 {
-    let at = i.0 as usize;
-    let kind = at8(kinds, at);
-    let u = use_of(kind, 0);
-    let v = use_of(kind, 1);
-    let w = use_of(kind, 2);
-    let f = at16(a, at);
-    let g = at16(b, at);
-    let h = at16(c, at);
-    let inner = enter(stack, depth, u, i);
-    let x = child(n, from, to, inputs, kinds, a, b, c, stack, inner, i, u, f);
-    let y = child(n, from, to, inputs, kinds, a, b, c, stack, inner, i, v, g);
-    let z = child(n, from, to, inputs, kinds, a, b, c, stack, inner, i, w, h);
-    step(n, from, to, inputs, kinds, a, b, stack, inner, i, x, y, z)
+    let w = word_at(nodes, i);
+    match kind(w) {
+        1 => variable(stack, depth, NodeNumber(i), Name(field_a(w))),
+        2 | 5 | 10 => one(nodes, types, stack, depth, i, w),
+        3 | 8 => binder(nodes, types, stack, depth, i, w),
+        4 | 7 | 9 | 12 => two(nodes, types, stack, depth, i, w),
+        6 | 11 => three(nodes, types, stack, depth, i, w),
+        _ => typed(TypeNumber(0)),
+    }
 }
 
-// The type at a field of node i: a child's, whose number is smaller, or D where the field is no child.
+// A child's number is smaller than its parent's.
 fn child(
-    n: Counts,
-    from: &[u16],
-    to: &[u16],
-    inputs: &[u16],
-    kinds: &[u8],
-    a: &[u16],
-    b: &[u16],
-    c: &[u16],
-    stack: &mut [u16],
+    nodes: &[u64; MAX_NODES],
+    types: &[u32; MAX_TYPES],
+    stack: &mut [u32; PLACES],
     depth: usize,
-    i: NodeNumber,
-    u: Use,
-    field: u16,
-) -> Typed
-    ensures { λ r. ⌜ Answers n (tablesOf (now (from .entry)) (now (to .entry)) (now (inputs .entry)) (now (kinds .entry))
-        (now (a .entry)) (now (b .entry)) (now (c .entry))) (now (stack .entry)) (now (stack .exit)) depth (i .0) u field r ⌝ }
+    i: u16,
+    m: u16,
+) -> u32
+    ensures { λ r. ⌜ ChildAnswers (now (nodes .entry)) (now (types .entry)) (now (stack .entry)) (now (stack .exit)) depth i m r ⌝ }
 {
-    match u {
-        Use::Child => {
-            if field < i.0 {
-                let m = NodeNumber(field);
-                node(n, from, to, inputs, kinds, a, b, c, stack, depth, m)
-            } else {
-                Typed::Is(TypeNumber(1))
-            }
-        }
-        _ => Typed::Is(TypeNumber(1)),
+    if m < i {
+        return node(nodes, types, stack, depth, m);
+    }
+    typed(TypeNumber(1))
+}
+
+fn one(
+    nodes: &[u64; MAX_NODES],
+    types: &[u32; MAX_TYPES],
+    stack: &mut [u32; PLACES],
+    depth: usize,
+    i: u16,
+    w: u64,
+) -> u32
+    requires { ⌜ WordOf (now nodes) i w OneChild ⌝ }
+    ensures { λ r. ⌜ Answers (now (nodes .entry)) (now (types .entry)) (now (stack .entry)) (now (stack .exit)) depth i r ⌝ }
+{
+    let e = child(nodes, types, stack, depth, i, field_a(w));
+    one_rule(types, kind(w), NodeNumber(i), e)
+}
+
+fn two(
+    nodes: &[u64; MAX_NODES],
+    types: &[u32; MAX_TYPES],
+    stack: &mut [u32; PLACES],
+    depth: usize,
+    i: u16,
+    w: u64,
+) -> u32
+    requires { ⌜ WordOf (now nodes) i w TwoChildren ⌝ }
+    ensures { λ r. ⌜ Answers (now (nodes .entry)) (now (types .entry)) (now (stack .entry)) (now (stack .exit)) depth i r ⌝ }
+{
+    let e = child(nodes, types, stack, depth, i, field_a(w));
+    let f = child(nodes, types, stack, depth, i, field_b(w));
+    two_rule(types, kind(w), NodeNumber(i), e, f)
+}
+
+fn three(
+    nodes: &[u64; MAX_NODES],
+    types: &[u32; MAX_TYPES],
+    stack: &mut [u32; PLACES],
+    depth: usize,
+    i: u16,
+    w: u64,
+) -> u32
+    requires { ⌜ WordOf (now nodes) i w ThreeChildren ⌝ }
+    ensures { λ r. ⌜ Answers (now (nodes .entry)) (now (types .entry)) (now (stack .entry)) (now (stack .exit)) depth i r ⌝ }
+{
+    let a = field_a(w);
+    let b = field_b(w);
+    let c = field_c(w);
+    let e = child(nodes, types, stack, depth, i, a);
+    let f = child(nodes, types, stack, depth, i, b);
+    let g = child(nodes, types, stack, depth, i, c);
+    three_rule(types, kind(w), NodeNumber(i), e, f, g)
+}
+
+fn binder(
+    nodes: &[u64; MAX_NODES],
+    types: &[u32; MAX_TYPES],
+    stack: &mut [u32; PLACES],
+    depth: usize,
+    i: u16,
+    w: u64,
+) -> u32
+    requires { ⌜ WordOf (now nodes) i w BindsName ⌝ }
+    ensures { λ r. ⌜ Answers (now (nodes .entry)) (now (types .entry)) (now (stack .entry)) (now (stack .exit)) depth i r ⌝ }
+{
+    let p = parameter(w);
+    let inner = push(stack, depth, pair(field_a(w), p.0));
+    let e = child(nodes, types, stack, inner, i, field_c(w));
+    binder_rule(types, kind(w), p, NodeNumber(i), e)
+}
+
+// The words of the listed types, over places that hold none.
+fn pack_types(parameters: &[u16], results: &[u16], count: u16, types: &mut [u32])
+    ensures { λ r. ⌜ (now (types .entry) ≡ replicate 64 4294967295 → count ≤ 64 →
+        Lists count (λ j. getD (now (parameters .entry)) j 0) (λ j. getD (now (results .entry)) j 0) (now (types .exit))) ⌝ }
+{
+    let n = count as usize;
+    let mut j: usize = 0;
+    while j < n {
+        let w = pair(at16(parameters, j), at16(results, j));
+        put(types, j, w);
+        j += 1;
+    }
+}
+
+// The inputs as binders, the first innermost.
+fn bind_inputs(inputs: &[u16], count: u16, stack: &mut [u32])
+    ensures { λ r. ⌜ (count ≤ length (now (stack .entry)) → Bottom count (now (inputs .entry)) (now (stack .exit))) ⌝ }
+{
+    let mut j: u16 = 0;
+    while j < count {
+        let w = pair(j, at16(inputs, j as usize));
+        put(stack, (count - 1 - j) as usize, w);
+        j += 1;
     }
 }
 
 // The root must be D.
-fn verdict(root: NodeNumber, t: Typed) -> Verdict
-    ensures { λ r. ⌜ refusalOf r ≡ rootAnswer root t ⌝ }
+fn verdict(root: NodeNumber, r: u32) -> Verdict
+    ensures { λ v. ⌜ refusalOf v ≡ rootAnswer (root .0) r ⌝ }
 {
-    match t {
-        Typed::Fault(number, i) => Verdict::Refused(Refusal {
-            number,
-            place: i.0 as usize,
-        }),
-        Typed::Is(k) => {
-            if k.0 == 1 {
-                Verdict::Passed
-            } else {
-                Verdict::Refused(Refusal {
-                    number: 11,
-                    place: root.0 as usize,
-                })
-            }
-        }
+    if r < TYPE {
+        return Verdict::Refused(Refusal {
+            number: (r % 16) as u8,
+            place: (r / 16) as usize,
+        });
     }
+    let t = type_in(r);
+    if t.0 == 1 {
+        return Verdict::Passed;
+    }
+    Verdict::Refused(Refusal {
+        number: 11,
+        place: root.0 as usize,
+    })
 }
 
 fn last(nodes: u16) -> NodeNumber
@@ -345,32 +430,15 @@ pub fn annotation_refusal(
     parameters: &[u16],
     results: &[u16],
     inputs: &[u16],
-    kinds: &[u8],
-    a: &[u16],
-    b: &[u16],
-    c: &[u16],
+    nodes: &[u64; MAX_NODES],
 ) -> Verdict
-    ensures { λ r. ⌜ ((values : List ℤ) → Passes n (tablesOf (now (parameters .entry)) (now (results .entry)) (now (inputs .entry)) (now (kinds .entry))
-        (now (a .entry)) (now (b .entry)) (now (c .entry)) values) →
-        refusalOf r ≡ annotationRefusal (scriptOf n (tablesOf (now (parameters .entry)) (now (results .entry)) (now (inputs .entry)) (now (kinds .entry))
-        (now (a .entry)) (now (b .entry)) (now (c .entry)) values))) ⌝ }
+    ensures { λ r. ⌜ Annotated n (now (parameters .entry)) (now (results .entry)) (now (inputs .entry)) (now (nodes .entry)) r ⌝ }
 {
-    let mut stack = [0u16; MAX_NODES];
+    let mut types = [UNLISTED; MAX_TYPES];
+    pack_types(parameters, results, n.types, &mut types);
+    let mut stack = [0u32; PLACES];
+    bind_inputs(inputs, n.inputs, &mut stack);
     let root = last(n.nodes);
-    verdict(
-        root,
-        node(
-            n,
-            parameters,
-            results,
-            inputs,
-            kinds,
-            a,
-            b,
-            c,
-            &mut stack,
-            0,
-            root,
-        ),
-    )
+    let depth = n.inputs as usize;
+    verdict(root, node(nodes, &types, &mut stack, depth, root.0))
 }

@@ -1,21 +1,14 @@
--- `annotation::typing::parameter` meets its contract: in one arm the use is that of a parameter's type, in the other it is not.
--- Assumes nothing.
+-- `annotation::typing::parameter` meets its contract: each arm is a case of the definition. Assumes nothing.
 use borrow.Author.Needs.{needs}
-use mathlib.Core.List.{[], _∷_}
-use types.Run.{miss}
-use Rattle.lambdamix.specs.declared.Use.the-variants.{ParameterType}
-use Rattle.annotation.specs.Fields.{parameterBy}
-use Rattle.annotation.proofs.Uses.{other-arm}
+use borrow.Author.Tests.{ne-eqb}
 use Rattle.annotation.proofs.typing.parameter.Statement.{statement}
 use Rattle.annotation.proofs.typing.parameter.Tie as tie
 
 returns : tie.Need-returns
-unfolding parameterBy
-returns c = rw (← c .before .before .before .before .at8 .ensures, ← c .before .before .before .use-of .ensures, c .before .enum-told .given .1, c .at16 .ensures)
+returns c = rw (← c .before .before .kind .ensures, c .before .match .keys1, c .field-b .ensures)
 
 returns-2 : tie.Need-returns-2
-unfolding parameterBy
-returns-2 c = rw (← c .before .before .at8 .ensures, ← c .before .use-of .ensures, other-arm ParameterType (c .before .use-of .result) _ _ (0 ∷ 1 ∷ 2 ∷ 3 ∷ 5 ∷ []) (miss (0 ∷ 1 ∷ 2 ∷ 3 ∷ 5 ∷ []) 4 tt) (c .match .keys2))
+returns-2 c = rw (← c .before .kind .ensures, ne-eqb _ _ (c .match .rest .1))
 
 pub parameter-spec : {M : Type 1} → statement M
-parameter-spec = tie.close (tie.spec (λ c. search needs) (λ c κs. search needs) (λ c κs. search needs) (λ c. search needs) (λ c κs. search needs) returns returns-2)
+parameter-spec = tie.close (tie.spec (λ c κs. search needs) (λ c κs. search needs) returns returns-2)

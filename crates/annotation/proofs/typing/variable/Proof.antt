@@ -1,68 +1,52 @@
--- `annotation::typing::variable` meets its contract. The loop's invariant: what is looked for among all binders is what is looked
--- for among the first d. The measure is d. Assumes nothing.
+-- `annotation::typing::variable` meets its contract: what is looked for among all binders is what is looked for among the first d; the measure is d. Assumes nothing.
 use borrow.Author.Needs.{needs}
-use Prim.Native.Nat.{ℕ, suc, _-_, _<_, _≤_}
-use mathlib.Core.Path.{_≡_, refl, sym, ap, _∙_}
+use Prim.Native.Nat.{ℕ, suc, _-_, _/_, _%_, _<_, _≤_}
+use mathlib.Core.Path.{_≡_, refl, sym, _∙_}
 use mathlib.Core.List.{List}
 use native.Mathlib.Omega.{arith}
-use lib.ListN.{getD}
-use lib.Dec.{eqb, ltb}
+use lib.ListN.{getD, length}
+use lib.Dec.{eqb}
 use borrow.Author.Tests.{eq-eqb, ne-eqb}
-use Rattle.script.specs.Kinds.{useOf}
-use Rattle.annotation.specs.declared.typing.Typed.{Typed}
-use Rattle.annotation.specs.declared.typing.Typed.the-variants.{Is}
-use Rattle.annotation.specs.Fields.{pick, parameterBy}
-use Rattle.annotation.specs.Answers.{bound, givenBy}
+use Rattle.annotation.specs.Answers.{pick, typeAnswer}
+use Rattle.annotation.specs.Walks.{bound}
 use Rattle.annotation.proofs.typing.variable.Statement.{statement}
 use Rattle.annotation.proofs.typing.variable.Tie as tie
 
-module _ (k a b binders : List ℕ) (x : ℕ) (r : Typed) (d : ℕ) where
+module _ (binders : List ℕ) (x i d : ℕ) where
   last-first :
       0 < d →
-      bound k a b binders x r d
-      ≡ pick (eqb (getD a (getD binders (d - 1) 0) 0) x)
-      (Is (record { 0 = parameterBy (useOf (getD k (getD binders (d - 1) 0) 0) 1) (getD b (getD binders (d - 1) 0) 0) }))
-      (bound k a b binders x r (d - 1))
+      bound binders x i d
+      ≡ pick (eqb (getD binders (d - 1) 0 / 65536) x) (typeAnswer (getD binders (d - 1) 0 % 65536)) (bound binders x i (d - 1))
   unfolding bound
   last-first h = let e : suc (d - 1) ≡ d = omega arith in let f : suc (d - 1) - 1 ≡ d - 1 = omega arith in rw (← e, f)
 
-  found-here :
-      {j m : ℕ} → 0 < d → j ≡ getD binders (d - 1) 0 → m ≡ getD a j 0 → m ≡ x →
-      bound k a b binders x r d ≡ Is (record { 0 = parameterBy (useOf (getD k j 0) 1) (getD b j 0) })
-  found-here {j} {m} h e f g = last-first h ∙ rw (← e, eq-eqb (getD a j 0) x (sym f ∙ g))
+  found-here : 0 < d → getD binders (d - 1) 0 / 65536 ≡ x → bound binders x i d ≡ typeAnswer (getD binders (d - 1) 0 % 65536)
+  found-here h e = last-first h ∙ rw (eq-eqb _ _ e)
 
-  not-here :
-      {j m : ℕ} → 0 < d → j ≡ getD binders (d - 1) 0 → m ≡ getD a j 0 → (m ≡ x → ⊥) →
-      bound k a b binders x r d ≡ bound k a b binders x r (d - 1)
-  not-here {j} {m} h e f g = last-first h ∙ rw (← e, ne-eqb (getD a j 0) x (λ w. g (f ∙ w)))
-
-  none-left : d ≤ 0 → bound k a b binders x r d ≡ r
-  unfolding bound
-  none-left h = let e : d ≡ 0 = omega arith in rw e
+  not-here : 0 < d → (getD binders (d - 1) 0 / 65536 ≡ x → ⊥) → bound binders x i d ≡ bound binders x i (d - 1)
+  not-here h e = last-first h ∙ rw (ne-eqb _ _ e)
 
 abbrev Inv-loop : tie.InvT-loop
-Inv-loop n inputs kinds a b stack depth x i d₀ d = bound kinds a b stack (x .0) (givenBy (ltb (x .0) (n .inputs)) (record { 0 = getD inputs (x .0) 0 }) i) depth ≡ bound kinds a b stack (x .0) (givenBy (ltb (x .0) (n .inputs)) (record { 0 = getD inputs (x .0) 0 }) i) d
+Inv-loop stack depth i x d₀ d = (d ≤ length stack) × (bound stack (x .0) (i .0) depth ≡ bound stack (x .0) (i .0) d)
 
 abbrev μ-loop : tie.MeasureT-loop
-μ-loop n inputs kinds a b stack depth x i d₀ d = d
-
-loop-holds : tie.Need-loop-holds Inv-loop μ-loop
-loop-holds c = refl
-
-sub-d : tie.Need-sub-d Inv-loop μ-loop
-sub-d c = omega arith
+μ-loop stack depth i x d₀ d = d
 
 returns : tie.Need-returns Inv-loop μ-loop
-returns c = sym (c .before .before .before .before .before .before .before .loop .inv ∙ found-here _ _ _ _ _ _ _ (c .before .before .before .before .before .before .loop-test .taken) (c .before .before .before .before .before .at16 .ensures) (c .before .before .before .at162 .ensures) (c .before .if1 .taken) ∙ ap Is (sym (c .parameter .ensures)))
+returns c = λ few. let z : ⊥ = omega arith in absurd z
 
-loop-less : tie.Need-loop-less Inv-loop μ-loop
-loop-less c = omega arith
-
-loop-again : tie.Need-loop-again Inv-loop μ-loop
-loop-again c = c .before .before .before .before .before .before .loop .inv ∙ not-here _ _ _ _ _ _ _ (c .before .before .before .before .before .loop-test .taken) (c .before .before .before .before .at16 .ensures) (c .before .before .at162 .ensures) (c .if1 .left)
+loop-holds : tie.Need-loop-holds Inv-loop μ-loop
+loop-holds c = (omega arith, refl)
 
 returns-2 : tie.Need-returns-2 Inv-loop μ-loop
-returns-2 c = c .input .ensures ∙ sym (c .before .before .loop .inv ∙ none-left _ _ _ _ _ _ _ (c .before .loop-test .left))
+returns-2 c = λ few. c .typed .ensures ∙ rw (c .before .low .ensures) (sym (c .before .before .before .before .before .before .before .loop .inv .1 ∙ found-here _ _ _ _ (c .before .before .before .before .before .before .loop-test .taken) (sym (c .before .before .before .before .high .ensures) ∙ c .before .before .if2 .taken)))
+
+loop-again : tie.Need-loop-again Inv-loop μ-loop
+loop-again c = (omega arith, c .before .before .before .before .before .loop .inv .1 ∙ not-here _ _ _ _ (c .before .before .before .before .loop-test .taken) (λ e. c .if2 .left (c .before .before .high .ensures ∙ e)))
+
+returns-3 : tie.Need-returns-3 Inv-loop μ-loop
+unfolding bound
+returns-3 c = λ few. let e : c .before .before .loop .d ≡ 0 = omega arith in c .fault2 .ensures ∙ sym (c .before .before .loop .inv .1 ∙ rw e)
 
 pub variable-spec : {M : Type 1} → statement M
-variable-spec = tie.close (tie.spec Inv-loop μ-loop loop-holds sub-d (λ c κs. search needs) (λ c. search needs) (λ c κs. search needs) (λ c κs. search needs) returns loop-less loop-again (λ c κs. search needs) returns-2)
+variable-spec = tie.close (tie.spec Inv-loop μ-loop (λ c κs. search needs) returns loop-holds (λ c. omega arith) (λ c. search needs) (λ c. omega arith) (λ c κs. search needs) (λ c κs. search needs) (λ c κs. search needs) returns-2 (λ c. omega arith) loop-again (λ c κs. search needs) returns-3)

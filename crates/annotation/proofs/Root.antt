@@ -1,0 +1,87 @@
+-- From the root on: the walk's answer, under the inputs alone, gives refusals 9, 10 and 11 of the tables. Assumes nothing.
+use Prim.Native.Nat.{ℕ, _-_, _%_, _≤_, _<_}
+use mathlib.Core.Path.{_≡_, _∙_}
+use mathlib.Core.Option.{none, some}
+use mathlib.Core.List.{List}
+use mathlib.Core.Logic.{⊎-elim}
+use native.Mathlib.Omega.{arith}
+use lib.ListN.{length, getD}
+use lib.Dec.{eqb, ltb}
+use borrow.Author.Tests.{ltb-false, ne-eqb}
+use Rattle.lambdamix.specs.Script.{Script, nodeCount, root}
+use Rattle.lambdamix.specs.Types.{Ty}
+use Rattle.lambdamix.specs.Typing.{inputContext}
+use Rattle.lambdamix.specs.Checker.{Checked, typed, rootRule, checkedRoot, annotationRefusal}
+use Rattle.lambdamix.proofs.Tests.{holds-or-fails}
+use Rattle.script.specs.declared.Counts.{Counts}
+use Rattle.script.specs.declared.Verdict.{Verdict}
+use Rattle.script.specs.Replies.{refusalOf}
+use Rattle.script.specs.Tables.{Tables, rowType, rowInput, rowNode, tablesRefusal}
+use Rattle.script.specs.Columns.{tablesOf}
+use Rattle.script.specs.Words.{Packed}
+use Rattle.script.proofs.RefusalLaws.{neither}
+use Rattle.annotation.specs.Answers.{scriptOf, Passes, pick, meaning, Stands, rootAnswer}
+use Rattle.annotation.specs.Walks.{Lists, Lent, Bottom, Binds, Answers, Annotated}
+use Rattle.annotation.proofs.Passing.{Sound, passes-sound, type-count, input-count, node-count, type-row, input-row, node-row}
+use Rattle.annotation.proofs.TypeNumbers.{View, early, late, arrow, view}
+use Rattle.annotation.proofs.Contexts.{inputs-bound}
+
+-- the answer at the root, and what it stands for
+root-stands : (s : Script) → Sound s → (i r : ℕ) {x : Checked Ty} → Stands s r x → rootAnswer i r ≡ rootRule i x
+unfolding rootAnswer rootRule meaning
+root-stands s ok i r p =
+    rw (← p .said)
+    (⊎-elim (λ e. rw e) (λ e. let h = ltb-false _ _ e in rw e (by-view (view s ok (r % 65536) (p .known h))))
+    (holds-or-fails (ltb r 1048576)))
+  where
+    by-view :
+        {u : Ty} → View s (r % 65536) u →
+        pick (eqb (r % 65536) 1) none (some (record { number = 11; place = i })) ≡ rootRule i (typed u)
+    by-view (early e) = rw e
+    by-view (late e) = rw e
+    by-view (arrow j e l) = rw (ne-eqb (r % 65536) 1 (λ w. omega arith))
+
+module _ (n : Counts) (x : Tables) (ok : Passes n x) where
+  tables-lent :
+      {words ts : List ℕ} → Packed (n .nodes) (rowNode x) words → Lists (n .types) (λ j. getD (x .parameters) j 0) (λ j. getD (x .results) j 0) ts →
+      Lent (scriptOf n x) words ts
+  unfolding rowType tablesRefusal
+  tables-lent p t =
+      record {
+        passes = neither _ _ ok .1;
+        nodes = record { each = λ j h. let l : j < n .nodes = omega (arith, node-count n x) in rw (node-row n x j l) (p .each j l) };
+        types =
+            record {
+              each = λ j h. let l : j < n .types = omega (arith, type-count n x) in rw (type-row n x j l) (t .each j l);
+              past = λ j h l. t .past j (omega (arith, type-count n x)) l;
+              room = t .room;
+            };
+      }
+
+  inputs-lent : {before : List ℕ} → Bottom (n .inputs) (x .inputs) before → Binds (scriptOf n x) before (n .inputs) (inputContext (scriptOf n x))
+  unfolding rowInput
+  inputs-lent {before} b =
+      rw (input-count n x) at
+      (inputs-bound (scriptOf n x) (passes-sound n x ok) before
+      (λ j h. let l : j < n .inputs = omega (arith, input-count n x) in rw (input-count n x, input-row n x j l) (b .each j l)))
+
+-- Theorem: the root's answer gives refusals 9, 10 and 11.
+pub at-root :
+    {n : Counts} {ps rs is words ts before after : List ℕ} {i r : ℕ} {v : Verdict} →
+    (n .types ≤ 64 → Lists (n .types) (λ j. getD ps j 0) (λ j. getD rs j 0) ts) → (n .inputs ≤ 272 → Bottom (n .inputs) is before) →
+    length before ≡ 272 → i ≡ n .nodes - 1 → Answers words ts before after (n .inputs) i r → refusalOf v ≡ rootAnswer i r →
+    Annotated n ps rs is words v
+unfolding annotationRefusal checkedRoot root
+at-root {n} {ps} {rs} {is} {words} {before} {i} {r} t b c e a q = record {
+  reply = λ ks xs ys zs vs ok p.
+      let x = tablesOf ps rs is ks xs ys zs vs in
+      let s = scriptOf n x in
+      let sd = passes-sound n x ok in
+      let some = sd .some-node in
+      let m = node-count n x in
+      let f : i ≡ nodeCount s - 1 = omega arith in
+      let lent = tables-lent n x ok p (t (omega (arith, type-count n x, sd .few-types))) in
+      let st = a .reply s _ lent (inputs-lent n x ok (b (omega (arith, input-count n x, sd .few-inputs)))) (omega arith)
+      (omega (arith, input-count n x, sd .few-inputs, sd .low i (omega arith))) in
+      q ∙ root-stands s sd i r st ∙ rw f;
+}

@@ -1,0 +1,254 @@
+-- The rules on numbers of types stand for the rules on types, for each kind with children: a node's answer from the answers at its
+-- children. Assumes nothing.
+use Prim.Native.Nat.{ℕ, _+_, _-_, _*_, _/_, _%_, _≤_, _<_}
+use mathlib.Core.Path.{_≡_, refl}
+use mathlib.Core.Logic.{⊎-elim}
+use mathlib.Core.Bool.{Bool, true, false, _&&_}
+use mathlib.Core.List.{List, [], _∷_}
+use native.Mathlib.Omega.{arith}
+use lib.ListN.{length, getD}
+use lib.Dec.{leb, ltb, eqb}
+use borrow.Author.Tests.{leb-true, ltb-true, ltb-false}
+use Rattle.lambdamix.specs.Script.{Script, Node, rows, blankRow, nodeCount}
+use Rattle.lambdamix.specs.Term.{Terms, arity, childAt, build}
+use Rattle.lambdamix.specs.Types.{Ty, typeOf, typeCount}
+use Rattle.lambdamix.specs.Typing.{Context}
+use Rattle.lambdamix.specs.Checker.{Checked, typed, both, gather, rule, own, provided, applyRule, fixRule, abstrBy, abstrRule, dynRule, check, checkAll}
+use Rattle.lambdamix.proofs.Tests.{holds-or-fails}
+use Rattle.annotation.specs.Answers.{Stands, givenBy, lowest}
+use Rattle.annotation.specs.Walks.{Lent, Listing, listed-at, not-listed, OneChild, lifts, fixes, fixes-late, TwoChildren, applies, operates, applies-late, operates-late, ThreeChildren, chooses, chooses-late, Stand, none-left, and-then, BinderRuled}
+use Rattle.annotation.proofs.Passing.{Sound, sound}
+use Rattle.annotation.proofs.TypeNumbers.{pair, parts, type-one, function-type, listed-pair, unlisted-pair, apply-numbers, fix-numbers, lift-numbers, if-numbers, op-numbers, late-one, late-two, late-three, late-function}
+use Rattle.annotation.proofs.Contexts.{type-stands, fault-stands, given-stands}
+use Rattle.annotation.proofs.Faults.{told, told-alone, told-gather, told-both, told-rule, typed-answer}
+
+-- ---- the rules on numbers
+
+module _ {s : Script} {words ts : List ℕ} (lent : Lent s words ts) (i : ℕ) (h : i < nodeCount s) where
+  ok : Sound s
+  ok = sound s (lent .passes)
+
+  small : i < 65536
+  small = omega (arith, ok .few-nodes)
+
+  -- a test on a function type's two numbers, and one of them, read from its word
+  word-stands :
+      (test : ℕ → ℕ → Bool) (out : ℕ → ℕ → ℕ) →
+      ((j : ℕ) → j < length (s .types) → out (pair s j .parameter) (pair s j .result) < 2 + j) → (f : ℕ) → f < typeCount s →
+      Stands s
+      (givenBy (leb 2 f && test (getD ts (f - 2) 0 / 65536) (getD ts (f - 2) 0 % 65536))
+      (out (getD ts (f - 2) 0 / 65536) (getD ts (f - 2) 0 % 65536)) i)
+      (own i
+      (provided (leb 2 f && test (pair s (f - 2) .parameter) (pair s (f - 2) .result))
+      (typeOf s (out (pair s (f - 2) .parameter) (pair s (f - 2) .result)))))
+  unfolding typeCount own provided
+  word-stands test out known f m = by-test (leb 2 f) refl
+    where
+      by-test :
+          (b : Bool) → leb 2 f ≡ b →
+          Stands s
+          (givenBy (b && test (getD ts (f - 2) 0 / 65536) (getD ts (f - 2) 0 % 65536))
+          (out (getD ts (f - 2) 0 / 65536) (getD ts (f - 2) 0 % 65536)) i)
+          (own i
+          (provided (b && test (pair s (f - 2) .parameter) (pair s (f - 2) .result))
+          (typeOf s (out (pair s (f - 2) .parameter) (pair s (f - 2) .result)))))
+      by-test true e =
+          let l : 2 ≤ f = leb-true 2 f e in
+          let k = known (f - 2) (omega arith) in
+          let w = lent .types .each (f - 2) (omega arith) in
+          rw (w .high, w .low)
+          (given-stands s ok (test (pair s (f - 2) .parameter) (pair s (f - 2) .result)) _ i small (λ _. omega arith))
+      by-test false e = fault-stands s 9 i (omega arith) small
+
+  apply-stands :
+      (f t : ℕ) → f < typeCount s → t < typeCount s →
+      Stands s
+      (givenBy (leb 2 f && eqb (getD ts (f - 2) 0 / 65536) t) (getD ts (f - 2) 0 % 65536) i)
+      (own i (applyRule (typeOf s f) (typeOf s t)))
+  apply-stands f t m l =
+      rw (apply-numbers s ok f t m l) (word-stands (λ p r. eqb p t) (λ p r. r) (λ j k. parts s ok j k .1) f m)
+
+  fix-stands :
+      (f : ℕ) → f < typeCount s →
+      Stands s
+      (givenBy
+      (leb 2 f && (leb 2 (getD ts (f - 2) 0 / 65536) && eqb (getD ts (f - 2) 0 / 65536) (getD ts (f - 2) 0 % 65536)))
+      (getD ts (f - 2) 0 / 65536) i)
+      (own i (fixRule (typeOf s f)))
+  fix-stands f m =
+      rw (fix-numbers s ok f m) (word-stands (λ p r. leb 2 p && eqb p r) (λ p r. p) (λ j k. parts s ok j k .0) f m)
+
+  function-stands :
+      {r t u : ℕ} → Listing ts (65536 * t + u) i r → t < typeCount s → u < typeCount s →
+      Stands s r (own i (abstrRule s (typeOf s t) (typeOf s u)))
+  unfolding abstrRule abstrBy own typeCount
+  function-stands {t} {u} (listed-at j l e) m k =
+      let few = ok .few-types in
+      ⊎-elim
+      (λ b.
+      let c : j < length (s .types) = ltb-true _ _ b in
+      let w = lent .types .each j c in
+      let v = w .high in
+      let x = w .low in
+      let p : pair s j .parameter ≡ t = omega arith in
+      let q : pair s j .result ≡ u = omega arith in
+      rw (← p, ← q, listed-pair s ok j c, ← function-type s ok j c) (type-stands s ok (2 + j) (omega arith)))
+      (λ b. let w = lent .types .past j (ltb-false _ _ b) l in let z : ⊥ = omega arith in absurd z)
+      (holds-or-fails (ltb j (length (s .types))))
+  function-stands {t} {u} (not-listed other) m k =
+      let few = ok .few-types in
+      rw (unlisted-pair s ok t u m k (λ j b p q. let w = lent .types .each j b in let v = w .high in let x = w .low in other j (omega arith) (omega arith)))
+      (fault-stands s 10 i (omega arith) small)
+
+-- ---- a node over its children, by its kind
+
+module _ {s : Script} {words ls : List ℕ} (lent : Lent s words ls) (Γ : Context) (i : ℕ) (h : i < nodeCount s) (nd : Node) where
+  abbrev over : ℕ → Terms → Checked Ty
+  over k ts = check s Γ (build (getD rows k blankRow .step) i nd ts)
+
+  -- a fault goes first
+
+  pub one-fault : {k e : ℕ} {ts : Terms} → OneChild k → e < 1048576 → Stand s Γ (e ∷ []) ts → Stands s e (over k ts)
+  unfolding rows build childAt check checkAll
+  one-fault lifts l (and-then p none-left) = told-rule s i _ (told p) l
+  one-fault fixes l (and-then p none-left) = told-rule s i _ (told p) l
+  one-fault fixes-late l (and-then p none-left) = told-rule s i _ (told-gather (told-alone (told p) _)) l
+
+  late-two-fault :
+      {e f : ℕ} {ts : Terms} → lowest e f < 1048576 → Stand s Γ (e ∷ f ∷ []) ts →
+      Stands s (lowest e f) (rule i (dynRule 2) (checkAll s Γ ts))
+  unfolding checkAll
+  late-two-fault l (and-then p (and-then q none-left)) =
+      told-rule s i _ (told-gather (told-both (told p) (told-gather (told-alone (told q) _)))) l
+
+  pub two-fault :
+      {k e f : ℕ} {ts : Terms} → TwoChildren k → lowest e f < 1048576 → Stand s Γ (e ∷ f ∷ []) ts → Stands s (lowest e f) (over k ts)
+  unfolding rows build childAt check arity
+  two-fault applies l (and-then p (and-then q none-left)) = told-rule s i _ (told-both (told p) (told q)) l
+  two-fault operates l (and-then p (and-then q none-left)) = told-rule s i _ (told-both (told p) (told q)) l
+  two-fault applies-late l st = late-two-fault l st
+  two-fault operates-late l st = late-two-fault l st
+
+  pub three-fault :
+      {k e f g : ℕ} {ts : Terms} → ThreeChildren k → lowest e (lowest f g) < 1048576 → Stand s Γ (e ∷ f ∷ g ∷ []) ts →
+      Stands s (lowest e (lowest f g)) (over k ts)
+  unfolding rows build childAt check checkAll
+  three-fault chooses l (and-then p (and-then q (and-then r none-left))) =
+      told-rule s i _ (told-both (told p) (told-both (told q) (told r))) l
+  three-fault chooses-late l (and-then p (and-then q (and-then r none-left))) =
+      told-rule s i _ (told-gather (told-both (told p) (told-gather (told-both (told q) (told-gather (told-alone (told r) _)))))) l
+
+  -- else the rule on the types
+
+  pub lift-type :
+      {e : ℕ} {ts : Terms} → 1048576 ≤ e → Stand s Γ (e ∷ []) ts → Stands s (givenBy (eqb (e % 65536) 0) 1 i) (over 2 ts)
+  unfolding rows build childAt check rule typeCount
+  lift-type {e} l (and-then p none-left) =
+      rw (typed-answer p l, lift-numbers s (ok lent i h) (e % 65536) (p .known l))
+      (given-stands s (ok lent i h) _ 1 i (small lent i h) (λ _. omega arith))
+
+  pub fix-type :
+      {e : ℕ} {ts : Terms} → 1048576 ≤ e → Stand s Γ (e ∷ []) ts →
+      Stands s
+      (givenBy
+      (leb 2 (e % 65536)
+      && (leb 2 (getD ls (e % 65536 - 2) 0 / 65536)
+      && eqb (getD ls (e % 65536 - 2) 0 / 65536) (getD ls (e % 65536 - 2) 0 % 65536)))
+      (getD ls (e % 65536 - 2) 0 / 65536) i)
+      (over 5 ts)
+  unfolding rows build childAt check rule
+  fix-type {e} l (and-then p none-left) = rw (typed-answer p l) (fix-stands lent i h (e % 65536) (p .known l))
+
+  pub late-one-type :
+      {k e : ℕ} {ts : Terms} → OneChild k → (k ≡ 2 → ⊥) → (k ≡ 5 → ⊥) → 1048576 ≤ e → Stand s Γ (e ∷ []) ts →
+      Stands s (givenBy (eqb (e % 65536) 1) 1 i) (over k ts)
+  unfolding rows build childAt check checkAll arity both gather rule typeCount
+  late-one-type lifts a b l st = absurd (a refl)
+  late-one-type fixes a b l st = absurd (b refl)
+  late-one-type {e} fixes-late a b l (and-then p none-left) =
+      rw (typed-answer p l, late-one s (ok lent i h) (e % 65536) (p .known l))
+      (given-stands s (ok lent i h) _ 1 i (small lent i h) (λ _. omega arith))
+
+  pub apply-type :
+      {e f : ℕ} {ts : Terms} → 1048576 ≤ e → 1048576 ≤ f → Stand s Γ (e ∷ f ∷ []) ts →
+      Stands s
+      (givenBy (leb 2 (e % 65536) && eqb (getD ls (e % 65536 - 2) 0 / 65536) (f % 65536)) (getD ls (e % 65536 - 2) 0 % 65536) i)
+      (over 4 ts)
+  unfolding rows build childAt check both rule
+  apply-type {e} {f} l m (and-then p (and-then q none-left)) =
+      rw (typed-answer p l, typed-answer q m) (apply-stands lent i h (e % 65536) (f % 65536) (p .known l) (q .known m))
+
+  pub operation-type :
+      {e f : ℕ} {ts : Terms} → 1048576 ≤ e → 1048576 ≤ f → Stand s Γ (e ∷ f ∷ []) ts →
+      Stands s (givenBy (eqb (e % 65536) 0 && eqb (f % 65536) 0) 0 i) (over 7 ts)
+  unfolding rows build childAt check both rule typeCount
+  operation-type {e} {f} l m (and-then p (and-then q none-left)) =
+      rw (typed-answer p l, typed-answer q m, op-numbers s (ok lent i h) (e % 65536) (f % 65536) (p .known l) (q .known m))
+      (given-stands s (ok lent i h) _ 0 i (small lent i h) (λ _. omega arith))
+
+  late-two-types :
+      {e f : ℕ} {ts : Terms} → 1048576 ≤ e → 1048576 ≤ f → Stand s Γ (e ∷ f ∷ []) ts →
+      Stands s (givenBy (eqb (e % 65536) 1 && eqb (f % 65536) 1) 1 i) (rule i (dynRule 2) (checkAll s Γ ts))
+  unfolding checkAll both gather rule typeCount
+  late-two-types {e} {f} l m (and-then p (and-then q none-left)) =
+      rw (typed-answer p l, typed-answer q m, late-two s (ok lent i h) (e % 65536) (f % 65536) (p .known l) (q .known m))
+      (given-stands s (ok lent i h) _ 1 i (small lent i h) (λ _. omega arith))
+
+  pub late-two-type :
+      {k e f : ℕ} {ts : Terms} → TwoChildren k → (k ≡ 4 → ⊥) → (k ≡ 7 → ⊥) → 1048576 ≤ e → 1048576 ≤ f →
+      Stand s Γ (e ∷ f ∷ []) ts → Stands s (givenBy (eqb (e % 65536) 1 && eqb (f % 65536) 1) 1 i) (over k ts)
+  unfolding rows build check arity
+  late-two-type applies a b l m st = absurd (a refl)
+  late-two-type operates a b l m st = absurd (b refl)
+  late-two-type applies-late a b l m st = late-two-types l m st
+  late-two-type operates-late a b l m st = late-two-types l m st
+
+  pub if-type :
+      {e f g : ℕ} {ts : Terms} → 1048576 ≤ e → 1048576 ≤ f → 1048576 ≤ g → Stand s Γ (e ∷ f ∷ g ∷ []) ts →
+      Stands s (givenBy (eqb (e % 65536) 0 && eqb (f % 65536) (g % 65536)) (f % 65536) i) (over 6 ts)
+  unfolding rows build childAt check both rule
+  if-type {e} {f} {g} l m n (and-then p (and-then q (and-then r none-left))) =
+      rw (typed-answer p l, typed-answer q m, typed-answer r n, if-numbers s (ok lent i h) (e % 65536) (f % 65536) (g % 65536) (p .known l) (q .known m) (r .known n))
+      (given-stands s (ok lent i h) _ (f % 65536) i (small lent i h) (λ _. q .known m))
+
+  pub late-three-type :
+      {k e f g : ℕ} {ts : Terms} → ThreeChildren k → (k ≡ 6 → ⊥) → 1048576 ≤ e → 1048576 ≤ f → 1048576 ≤ g →
+      Stand s Γ (e ∷ f ∷ g ∷ []) ts →
+      Stands s (givenBy (eqb (e % 65536) 1 && (eqb (f % 65536) 1 && eqb (g % 65536) 1)) 1 i) (over k ts)
+  unfolding rows build childAt check checkAll arity both gather rule typeCount
+  late-three-type chooses a l m n st = absurd (a refl)
+  late-three-type {e} {f} {g} chooses-late a l m n (and-then p (and-then q (and-then r none-left))) =
+      rw (typed-answer p l, typed-answer q m, typed-answer r n, late-three s (ok lent i h) (e % 65536) (f % 65536) (g % 65536) (p .known l) (q .known m) (r .known n))
+      (given-stands s (ok lent i h) _ 1 i (small lent i h) (λ _. omega arith))
+
+-- ---- a binder over its body
+
+pub body-fault : {ls : List ℕ} {k p i e : ℕ} → e < 1048576 → BinderRuled ls k p i e e
+unfolding check
+body-fault {i} l =
+    record {
+      early = λ words s Γ y t a lent h b st. told-rule s i _ (told st) l;
+      late = λ words s Γ y t a lent h b st. told-rule s i _ (rw (b, type-one s) at (told st)) l;
+    }
+
+pub function-type-ruled :
+    {ls : List ℕ} {k p i e r : ℕ} → k ≡ 3 → 1048576 ≤ e → (64 ≤ length ls → Listing ls (65536 * p + e % 65536) i r) →
+    BinderRuled ls k p i e r
+unfolding check rule
+function-type-ruled {p} {i} {e} a l g =
+    record {
+      early = λ words s Γ y t _ lent h b st.
+          rw (typed-answer st l) (function-stands lent i h {t = p} {u = e % 65536} (g (lent .types .room)) b (st .known l));
+      late = λ words s Γ y t c lent h b st. let z : ⊥ = omega arith in absurd z;
+    }
+
+pub late-function-ruled :
+    {ls : List ℕ} {k p i e r : ℕ} → (k ≡ 3 → ⊥) → 1048576 ≤ e → r ≡ givenBy (eqb (e % 65536) 1) 1 i → BinderRuled ls k p i e r
+unfolding check rule typeCount
+late-function-ruled {i} {e} a l g =
+    record {
+      early = λ words s Γ y t c lent h b st. absurd (a c);
+      late = λ words s Γ y t c lent h b st.
+          rw (← type-one s, ← b, typed-answer st l, late-function s (ok lent i h) (e % 65536) (st .known l), g)
+          (given-stands s (ok lent i h) _ 1 i (small lent i h) (λ _. omega arith));
+    }
