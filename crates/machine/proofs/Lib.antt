@@ -3,7 +3,6 @@ pub mod Stands
 pub mod Nodes
 pub mod Same
 pub mod Simulation
-pub mod SignedBits
 pub mod Lookup
 pub mod Sorts
 pub mod Members
