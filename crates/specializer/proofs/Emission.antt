@@ -1,26 +1,27 @@
--- Written nodes, one piece behind the other: what the code puts for a cell's fields and for the cell is its tree's nodes.
--- Assumes nothing.
-use Prim.Native.Nat.{ℕ, suc, _+_, _*_, _%_, _<_, _≤_}
-use mathlib.Core.Path.{_≡_, refl, sym, ap, _∙_}
+-- Written nodes, one piece behind the other, and the node over them: what the code puts for a cell is its tree's nodes. Assumes
+-- nothing.
+use Prim.Native.Nat.{ℕ, suc, _+_, _*_, _<_}
+use mathlib.Core.Path.{_≡_, refl, sym, ap, ap₂, _∙_}
+use mathlib.Core.Logic.{_⊎_, inl, inr}
 use mathlib.Core.List.{List, [], _∷_, _++_, append-nil}
 use native.Mathlib.Numerals.{add-one}
 use native.Mathlib.Omega.{arith}
 use lib.IntN.{ℤ, pos}
 use lib.ListN.{length, getD}
+use lib.Dec.{eqb}
 use Rattle.lambdamix.specs.Script.{Node}
-use Rattle.lambdamix.specs.Code.{Code, lit, node, top, nodesFrom}
-use Rattle.script.specs.Bytes.{signed32}
+use Rattle.lambdamix.specs.Term.{Former, fixing}
+use Rattle.lambdamix.specs.Code.{Code, Codes, lit, ref, fn, form, nilC, consC, node, formNode, top, after, tops, nodesFrom, allNodesFrom}
+use Rattle.lambdamix.proofs.WrittenTree.{top-last, after-last}
 use Rattle.script.specs.File.{nodeBytes, records}
+use Rattle.script.specs.Words.{wordKind, wordC}
 use Rattle.file.specs.Written.{Put}
 use Rattle.file.proofs.RecordLaws.{records-length}
 use Rattle.file.proofs.Layouts.{nodeLayout}
 use Rattle.file.proofs.WritingLaws.{put-both, put-same, records-append}
-use Rattle.specializer.specs.declared.Field.{Field}
-use Rattle.specializer.specs.declared.Field.the-variants as Field
-use Rattle.specializer.specs.Cells.{Sort, constant, variable, function, pair, single, triple, operation, sortOf, cellKind, codeBy, codeAt}
-use Rattle.specializer.specs.Fields.{kindNumber, cellNumber, fieldAt, codeBelow, partNodes, partField, partNext}
-use Rattle.specializer.specs.Answers.{Emits, EmitsPart}
-use Rattle.specializer.proofs.FieldLaws.{code-step, part-last, nodes-cell, top-cell}
+use Rattle.specializer.specs.Cells.{twoPieces, threePieces, codeAt, codeBelow}
+use Rattle.specializer.specs.Answers.{Emits, EmitsOver, lastField, twoNode, threeNode}
+use Rattle.specializer.proofs.CellLaws.{is-pair, is-operation, is-triple}
 
 -- ---- bytes
 
@@ -34,146 +35,141 @@ one-record : (nd : Node) → records nodeBytes (nd ∷ []) ≡ nodeBytes nd
 unfolding records
 one-record nd = append-nil (nodeBytes nd)
 
-records-split :
-    (a b c : List Node) (nd : Node) →
-    records nodeBytes (a ++ (b ++ (c ++ (nd ∷ []))))
-    ≡ records nodeBytes a ++ (records nodeBytes b ++ (records nodeBytes c ++ nodeBytes nd))
-records-split a b c nd =
-    rw (
-      records-append nodeBytes a (b ++ (c ++ (nd ∷ []))),
-      records-append nodeBytes b (c ++ (nd ∷ [])),
-      records-append nodeBytes c (nd ∷ []),
-      one-record nd,
-    )
+-- nodes, and a last one behind them
+records-last : (ns : List Node) (nd : Node) → records nodeBytes ns ++ nodeBytes nd ≡ records nodeBytes (ns ++ (nd ∷ []))
+records-last ns nd = rw (records-append nodeBytes ns (nd ∷ []), one-record nd)
 
 -- ---- constants
 
-pub put-constant :
-    (base k : ℕ) (z : ℤ) {l m m′ : List ℕ} → Put l (base + 13 * k) (nodeBytes (node 0 0 0 0 z)) m →
-    Put m (base + 13 * (k + 1)) (nodeBytes (node 2 k 0 0 (pos 0))) m′ →
-    Put l (base + 13 * k) (records nodeBytes (nodesFrom k (lit z))) m′
-unfolding nodesFrom
-put-constant base k z p q =
-    put-same (sym (records-append nodeBytes (node 0 0 0 0 z ∷ []) (node 2 k 0 0 (pos 0) ∷ [])))
-    (put-nodes base k (node 0 0 0 0 z ∷ []) (put-same (sym (one-record (node 0 0 0 0 z))) p) (omega arith)
-    (put-same (sym (one-record (node 2 k 0 0 (pos 0)))) q))
+pub emits-lit :
+    (base k : ℕ) (z : ℤ) {l m m′ : List ℕ} → k + 1 < 4096 → Put l (base + 13 * k) (nodeBytes (node 0 0 0 0 z)) m →
+    Put m (base + 13 * (k + 1)) (nodeBytes (node 2 k 0 0 (pos 0))) m′ → Emits (lit z) base k l m′ (k + 1)
+unfolding top nodesFrom
+emits-lit base k z h p q =
+    record {
+      number = add-one k;
+      low = h;
+      put =
+          put-same (records-last (node 0 0 0 0 z ∷ []) (node 2 k 0 0 (pos 0)))
+          (put-nodes base k (node 0 0 0 0 z ∷ []) (put-same (sym (one-record (node 0 0 0 0 z))) p) (omega arith) q);
+    }
 
-constant-sort : (s : Sort) (self : ℕ → Code) (x : ℕ) → kindNumber s ≡ 0 → codeBy s self x ≡ lit (signed32 (x % 4294967296))
-unfolding kindNumber codeBy
-constant-sort constant self x h = refl
-constant-sort variable self x h = let z : ⊥ = omega arith in absurd z
-constant-sort function self x h = let z : ⊥ = omega arith in absurd z
-constant-sort pair self x h = let z : ⊥ = omega arith in absurd z
-constant-sort single self x h = let z : ⊥ = omega arith in absurd z
-constant-sort triple self x h = let z : ⊥ = omega arith in absurd z
-constant-sort operation self x h = let z : ⊥ = omega arith in absurd z
+module _ {c : Code} {z : ℤ} (e : c ≡ lit z) where
+  pub low-constant : (k : ℕ) → top k c < 4096 → k + 1 < 4096
+  unfolding top
+  low-constant k h = omega (arith, rw e at h)
 
-pub constant-read :
-    (xs : List ℕ) (p : ℕ) {x kind : ℕ} → x ≡ getD xs p 0 → kind ≡ cellNumber x → kind ≡ 0 →
-    codeAt xs p ≡ lit (signed32 (x % 4294967296))
-unfolding cellNumber
-constant-read xs p {x} e h z =
-    code-step xs p ∙ rw (← e) (constant-sort (sortOf (cellKind x)) (codeBelow xs p) x (sym h ∙ z))
+  pub emits-constant : {y : ℤ} {base k r : ℕ} {l m : List ℕ} → y ≡ z → Emits (lit y) base k l m r → Emits c base k l m r
+  emits-constant f p = rw (e, ← f) p
 
-pub low-constant : {c : Code} {z : ℤ} (k : ℕ) → c ≡ lit z → top k c < 4096 → k + 1 < 4096
-unfolding top
-low-constant k e h = omega (arith, rw e at h)
+-- ---- pieces
 
-pub emits-constant :
-    {c : Code} {z z′ : ℤ} {l m : List ℕ} (base k : ℕ) → c ≡ lit z → z′ ≡ z →
-    Put l (base + 13 * k) (records nodeBytes (nodesFrom k (lit z′))) m → Emits c base k l m (k + 1)
-unfolding top
-emits-constant base k e f p = rw (e, ← f) (record { number = add-one k; put = p })
+-- pieces are put from number k on; n is the next number, and is are the numbers of their last nodes
+pub record EmitsAll (cs : Codes) (base k : ℕ) (before after′ : List ℕ) (n : ℕ) (is : List ℕ) : Type 0 where
+  pub next : n ≡ after k cs
+  pub lasts : is ≡ tops k cs
+  pub put : Put before (base + 13 * k) (records nodeBytes (allNodesFrom k cs)) after′
 
--- ---- a field
+pub emits-none : {base k : ℕ} {l : List ℕ} → EmitsAll nilC base k l l k []
+unfolding top tops nodesFrom records
+emits-none = record { next = refl; lasts = refl; put = record { puts = refl } }
 
-module _ {self : ℕ → Code} {f : Field} {l : List ℕ} (base k : ℕ) where
-  pub emits-plain : {v : ℕ} → f ≡ Field.Plain v → EmitsPart self f base k l l (record { field = v; next = k })
-  unfolding partField partNext partNodes records
-  emits-plain e = rw e (record { field = refl; next = refl; put = record { puts = refl } })
+pub emits-more :
+    (self : ℕ → Code) {q i : ℕ} {cs : Codes} {base k r n : ℕ} {l m m′ is : List ℕ} → q ≡ i → Emits (self q) base k l m r →
+    EmitsAll cs base (r + 1) m m′ n is → EmitsAll (consC (self i) cs) base k l m′ n (r ∷ is)
+unfolding top tops nodesFrom
+emits-more self {q} {cs = cs} {base} {k} {r} e a s =
+    let c = self q in
+    let step : r + 1 ≡ suc (top k c) = add-one r ∙ ap suc (a .number) in
+    rw (← e)
+    (record {
+      next = s .next ∙ ap (λ (j : ℕ). after j cs) step;
+      lasts = ap₂ _∷_ (a .number) (s .lasts ∙ ap (λ (j : ℕ). tops j cs) step);
+      put =
+          put-same
+          (ap (λ (j : ℕ). records nodeBytes (nodesFrom k c) ++ records nodeBytes (allNodesFrom j cs)) step
+          ∙ sym (records-append nodeBytes (nodesFrom k c) (allNodesFrom (suc (top k c)) cs)))
+          (put-nodes base k (nodesFrom k c) (a .put) (step ∙ top-last c k) (s .put));
+    })
 
-  pub emits-child :
-      {q n : ℕ} {m : List ℕ} → f ≡ Field.Child q → Emits (self q) base k l m n →
-      EmitsPart self f base k l m (record { field = n; next = n + 1 })
-  unfolding partField partNext partNodes
-  emits-child {n = n} e p =
-      rw e (record { field = p .number; next = add-one n ∙ ap suc (p .number); put = p .put })
+-- where the last node's number is low, so are the pieces'
+module _ (self : ℕ → Code) (k : ℕ) {q i : ℕ} (cs : Codes) (e : q ≡ i) (h : after k (consC (self i) cs) < 4096) where
+  pub low-first : top k (self q) < 4096
+  unfolding top
+  low-first = rw e (omega (arith, after-last cs (suc (top k (self i)))))
 
-pub low-child :
-    (self : ℕ → Code) {f : Field} {q : ℕ} (k : ℕ) → f ≡ Field.Child q → partNext self f k ≤ 4096 → top k (self q) < 4096
-unfolding partNext
-low-child self k e h = rw e at h
+  pub low-rest : {r : ℕ} → r ≡ top k (self q) → after (r + 1) cs < 4096
+  unfolding top
+  low-rest {r} f = rw (add-one r, f, e) h
 
--- ---- a cell that is no constant, field by field
+-- ---- a node over pieces
 
-module _ (xs : List ℕ) (p k : ℕ) {x kind : ℕ} (xe : x ≡ getD xs p 0) (ke : kind ≡ cellNumber x) (inner : kind ≡ 0 → ⊥) where
-  sort-inner : kindNumber (sortOf (cellKind (getD xs p 0))) ≡ 0 → ⊥
-  unfolding cellNumber
-  sort-inner h = inner (ke ∙ rw xe h)
+pub emits-over :
+    {cs : Codes} {over : List ℕ → Node} {base k n : ℕ} {l m m′ is : List ℕ} → EmitsAll cs base k l m n is →
+    Put m (base + 13 * n) (nodeBytes (over is)) m′ → EmitsOver cs over base k l m′ n
+emits-over {cs} {over} {base} {k} s p =
+    record {
+      number = s .next;
+      put =
+          put-same
+          (ap (λ (is : List ℕ). records nodeBytes (allNodesFrom k cs) ++ nodeBytes (over is)) (s .lasts)
+          ∙ records-last (allNodesFrom k cs) (over (tops k cs)))
+          (put-nodes base k (allNodesFrom k cs) (s .put) (s .next ∙ after-last cs k) p);
+    }
 
-  number-top :
-      top k (codeAt xs p)
-      ≡ partNext (codeBelow xs p) (fieldAt xs p 2)
-      (partNext (codeBelow xs p) (fieldAt xs p 1) (partNext (codeBelow xs p) (fieldAt xs p 0) k))
-  unfolding fieldAt cellNumber
-  number-top =
-      rw (code-step xs p) (top-cell (codeBelow xs p) (sortOf (cellKind (getD xs p 0))) (getD xs p 0) k sort-inner)
+-- code is written as these pieces and this node over them
+pub record Over (c : Code) (cs : Codes) (over : List ℕ → Node) : Type 0 where
+  pub number : (k : ℕ) → top k c ≡ after k cs
+  pub nodes : (k : ℕ) → nodesFrom k c ≡ allNodesFrom k cs ++ (over (tops k cs) ∷ [])
 
-  module _ (low : top k (codeAt xs p) < 4096) {f₀ : Field} (e₀ : f₀ ≡ fieldAt xs p 0) where
-    pub first-low : partNext (codeBelow xs p) f₀ k ≤ 4096
-    first-low =
-        let n₁ = partNext (codeBelow xs p) (fieldAt xs p 0) k in
-        let n₂ = partNext (codeBelow xs p) (fieldAt xs p 1) n₁ in
-        rw e₀
-        (omega
-        (arith, number-top, part-last (codeBelow xs p) (fieldAt xs p 1) n₁, part-last (codeBelow xs p) (fieldAt xs p 2) n₂))
+module _ {c : Code} {cs : Codes} {over : List ℕ → Node} (o : Over c cs over) where
+  pub emits-code : {base k r : ℕ} {l m : List ℕ} → top k c < 4096 → EmitsOver cs over base k l m r → Emits c base k l m r
+  emits-code {k = k} h s =
+      let e = s .number ∙ sym (o .number k) in
+      record {
+        number = e;
+        low = omega (arith, e);
+        put = put-same (ap (records nodeBytes) (sym (o .nodes k))) (s .put);
+      }
 
-    module _ {m₁ : ℕ} (n₁ : m₁ ≡ partNext (codeBelow xs p) f₀ k) {f₁ : Field} (e₁ : f₁ ≡ fieldAt xs p 1) where
-      top-second : top k (codeAt xs p) ≡ partNext (codeBelow xs p) (fieldAt xs p 2) (partNext (codeBelow xs p) f₁ m₁)
-      top-second = rw (n₁, e₁, e₀) number-top
+  pub over-low : (k : ℕ) → top k c < 4096 → after k cs < 4096
+  over-low k h = rw (o .number k) at h
 
-      pub second-low : partNext (codeBelow xs p) f₁ m₁ ≤ 4096
-      second-low =
-          omega (arith, top-second, part-last (codeBelow xs p) (fieldAt xs p 2) (partNext (codeBelow xs p) f₁ m₁))
+pub over-variable : {c : Code} {f x : ℕ} → c ≡ ref x → f ≡ x → Over c nilC (λ is. node 1 f 0 0 (pos 0))
+unfolding top tops nodesFrom
+over-variable e g = rw (e, g) (record { number = λ k. refl; nodes = λ k. refl })
 
-      module _ {m₂ : ℕ} (n₂ : m₂ ≡ partNext (codeBelow xs p) f₁ m₁) {f₂ : Field} (e₂ : f₂ ≡ fieldAt xs p 2) where
-        top-third : top k (codeAt xs p) ≡ partNext (codeBelow xs p) f₂ m₂
-        top-third = rw (n₂, e₂) top-second
+pub over-function :
+    (self : ℕ → Code) {c : Code} {f x i : ℕ} → c ≡ fn x (self i) → f ≡ x →
+    Over c (consC (self i) nilC) (λ is. node 8 f 0 (getD is 0 0) (pos 0))
+unfolding top tops nodesFrom
+over-function self e g = rw (e, g) (record { number = λ k. refl; nodes = λ k. simp append-nil })
 
-        pub third-low : partNext (codeBelow xs p) f₂ m₂ ≤ 4096
-        third-low = omega (arith, top-third)
+over-form :
+    {c : Code} {f : Former} {cs : Codes} {over : List ℕ → Node} → c ≡ form f cs → ((is : List ℕ) → formNode f is ≡ over is) →
+    Over c cs over
+unfolding top nodesFrom
+over-form {cs = cs} e g = rw e (record { number = λ k. refl; nodes = λ k. rw (g (tops k cs)) })
 
-        nodes-third :
-            {v₀ v₁ v₂ : ℕ} → v₀ ≡ partField (codeBelow xs p) f₀ k → v₁ ≡ partField (codeBelow xs p) f₁ m₁ →
-            v₂ ≡ partField (codeBelow xs p) f₂ m₂ →
-            nodesFrom k (codeAt xs p)
-            ≡ partNodes (codeBelow xs p) f₀ k
-            ++ (partNodes (codeBelow xs p) f₁ m₁
-            ++ (partNodes (codeBelow xs p) f₂ m₂ ++ (node kind v₀ v₁ v₂ (pos 0) ∷ [])))
-        unfolding fieldAt cellNumber
-        nodes-third w₀ w₁ w₂ =
-            rw (w₂, w₁, w₀, n₂, e₂, n₁, e₁, e₀, ke, xe, code-step xs p)
-            (nodes-cell (codeBelow xs p) (sortOf (cellKind (getD xs p 0))) (getD xs p 0) k sort-inner)
+pub over-single :
+    (self : ℕ → Code) {c : Code} {i : ℕ} → c ≡ form fixing (consC (self i) nilC) →
+    Over c (consC (self i) nilC) (λ is. node 10 (getD is 0 0) 0 0 (pos 0))
+unfolding formNode
+over-single self e = over-form e (λ is. refl)
 
-        -- The pieces of the fields and the node over them are the nodes of the code.
-        pub emits-cell :
-            {v₀ v₁ v₂ m₃ : ℕ} {l l₁ l₂ l₃ l₄ : List ℕ} (base : ℕ) → v₀ ≡ partField (codeBelow xs p) f₀ k →
-            v₁ ≡ partField (codeBelow xs p) f₁ m₁ → v₂ ≡ partField (codeBelow xs p) f₂ m₂ →
-            m₃ ≡ partNext (codeBelow xs p) f₂ m₂ →
-            Put l (base + 13 * k) (records nodeBytes (partNodes (codeBelow xs p) f₀ k)) l₁ →
-            Put l₁ (base + 13 * m₁) (records nodeBytes (partNodes (codeBelow xs p) f₁ m₁)) l₂ →
-            Put l₂ (base + 13 * m₂) (records nodeBytes (partNodes (codeBelow xs p) f₂ m₂)) l₃ →
-            Put l₃ (base + 13 * m₃) (nodeBytes (node kind v₀ v₁ v₂ (pos 0))) l₄ → Emits (codeAt xs p) base k l l₄ m₃
-        emits-cell {v₀} {v₁} {v₂} base w₀ w₁ w₂ n₃ p₀ p₁ p₂ p₃ =
-            let self = codeBelow xs p in
-            record {
-              number = n₃ ∙ sym top-third;
-              put =
-                  put-same
-                  (sym
-                  (ap (records nodeBytes) (nodes-third w₀ w₁ w₂)
-                  ∙ records-split (partNodes self f₀ k) (partNodes self f₁ m₁) (partNodes self f₂ m₂) (node kind v₀ v₁ v₂ (pos 0))))
-                  (put-nodes base k (partNodes self f₀ k) p₀ (n₁ ∙ part-last self f₀ k)
-                  (put-nodes base m₁ (partNodes self f₁ m₁) p₁ (n₂ ∙ part-last self f₁ m₁)
-                  (put-nodes base m₂ (partNodes self f₂ m₂) p₂ (n₃ ∙ part-last self f₂ m₂) p₃)));
-            }
+module _ (xs : List ℕ) (p : ℕ) {x k : ℕ} (e : x ≡ getD xs p 0) (f : k ≡ wordKind x) where
+  pub over-two : (k ≡ 9) ⊎ (k ≡ 12) → Over (codeAt xs p) (twoPieces (codeBelow xs p) x) (twoNode x)
+  unfolding formNode twoNode lastField
+  over-two (inl g) = over-form (is-pair xs p e f g) (λ is. rw (← f, g))
+  over-two (inr g) = over-form (is-operation xs p e f g) (λ is. rw (← f, g))
+
+  pub over-three : k ≡ 11 → Over (codeAt xs p) (threePieces (codeBelow xs p) x) threeNode
+  unfolding formNode threeNode
+  over-three g = over-form (is-triple xs p e f g) (λ is. refl)
+
+-- the fields of the node over two pieces
+pub put-two :
+    {k f r i : ℕ} {m m′ : List ℕ} (x a b : ℕ) → k ≡ wordKind x → f ≡ wordC x → r ≡ lastField (eqb k 12) f →
+    Put m i (nodeBytes (node k a b r (pos 0))) m′ → Put m i (nodeBytes (twoNode x (a ∷ b ∷ []))) m′
+unfolding twoNode
+put-two x a b e f g p = rw (← e, ← f, ← g) p

@@ -1,10 +1,10 @@
 -- The end of a run that gave code: its file is put part behind part, and the reply and the output are those of paper 01, "26, 21".
 -- Assumes nothing.
-use Prim.Native.Nat.{ℕ, _+_, _*_, _-_, _≤_, _<_}
+use Prim.Native.Nat.{ℕ, zero, suc, _+_, _*_, _-_, _≤_, _<_}
 use mathlib.Core.Path.{_≡_, refl, sym, ap, _∙_, subst}
 use mathlib.Core.Bool.{true, false}
 use mathlib.Core.List.{List, [], _++_}
-use mathlib.Core.Option.{none, some}
+use mathlib.Core.Option.{some}
 use native.Mathlib.Omega.{arith}
 use lib.ListN.{length}
 use lib.Dec.{leb}
@@ -24,7 +24,7 @@ use Rattle.file.proofs.Layouts.{inputLayout}
 use Rattle.file.proofs.FileLaws.{file-length}
 use Rattle.file.proofs.WritingLaws.{put-both, put-same, put-over}
 use Rattle.specializer.specs.declared.Finish.the-variants as Finish
-use Rattle.specializer.specs.Cells.{spend}
+use Rattle.specializer.specs.Cells.{spend, spendOne, roomOf}
 use Rattle.specializer.specs.Making.{writtenBy, afterRun}
 use Rattle.specializer.specs.Answers.{replyOf, outcome}
 use Rattle.specializer.proofs.Spending.{Spent, left, spent, spend-fits, spend-size}
@@ -44,20 +44,29 @@ unfolding fits maxNodes
 fits-small c e h =
     omega (arith, leb-true (size c) 4096 (and-both (leb (size c) 4096) (leb (codeHeight c) maxHeight) h .0))
 
--- where something is left of the nodes, it and the code's nodes are all
-pub left-of : {r : ℕ} (c : Code) → spend c 4096 256 ≡ some r → size c + r ≡ 4096
-left-of {r} c e = go (subst (Spent (size c) (codeHeight c) 4096 256) e (spent c 4096 256))
-  where
-    go : Spent (size c) (codeHeight c) 4096 256 (some r) → size c + r ≡ 4096
-    go (left q l) = q
+-- what the count of code leaves tells whether it fits a file, and its nodes
+module _ (room : ℕ) (c : Code) (e : roomOf room ≡ spendOne c (roomOf 4097) 256) where
+  pub room-over : room ≡ 0 → fits c ≡ false
+  unfolding roomOf spend maxNodes maxHeight
+  room-over z = spend-fits c (sym e ∙ ap roomOf z)
 
-pub left-fits : {r : ℕ} (c : Code) → spend c 4096 256 ≡ some r → (4096 - r ≡ size c) × (fits c ≡ true)
-unfolding maxNodes maxHeight
-left-fits {r} c e = (omega (arith, left-of c e), spend-size c r e .0)
+  room-left : (room ≡ 0 → ⊥) → spend c 4096 256 ≡ some (room - 1)
+  unfolding roomOf spend
+  room-left f = sym e ∙ go room f
+    where
+      go : (n : ℕ) → (n ≡ 0 → ⊥) → roomOf n ≡ some (n - 1)
+      go zero g = absurd (g refl)
+      go (suc b) g = ap some (omega arith)
 
-pub over-unfit : (c : Code) → spend c 4096 256 ≡ none → fits c ≡ false
-unfolding maxNodes maxHeight
-over-unfit c e = spend-fits c e
+  pub room-size : (room ≡ 0 → ⊥) → size c + room ≡ 4097
+  room-size f = go (subst (Spent (size c) (codeHeight c) 4096 256) (room-left f) (spent c 4096 256))
+    where
+      go : Spent (size c) (codeHeight c) 4096 256 (some (room - 1)) → size c + room ≡ 4097
+      go (left q l) = omega (arith, q)
+
+  pub room-fits : (room ≡ 0 → ⊥) → (4097 - room ≡ size c) × (fits c ≡ true)
+  unfolding maxNodes maxHeight
+  room-fits f = (omega (arith, room-size f), spend-size c (room - 1) (room-left f) .0)
 
 -- ---- the file
 

@@ -3,7 +3,7 @@ pub mod Root
 pub mod Spending
 pub mod Zeros
 pub mod Binding
-pub mod FieldLaws
+pub mod CellLaws
 pub mod CodeTrees
 pub mod Emission
 pub mod Finishing

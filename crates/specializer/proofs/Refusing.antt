@@ -10,24 +10,24 @@ use lib.ListN.{length}
 use borrow.Author.Tests.{eq-eqb, ne-eqb, le-leb, lt-leb}
 use Rattle.lambdamix.specs.Limits.{maxFuel}
 use Rattle.lambdamix.specs.Script.{Script}
-use Rattle.lambdamix.specs.Structure.{orElse}
-use Rattle.lambdamix.specs.Specializing.{callRefusal, refusedBy, staticInputs}
+use Rattle.lambdamix.specs.Structure.{orElse, refusedUnless}
+use Rattle.lambdamix.specs.Specializing.{callRefusal, staticInputs}
 use Rattle.script.specs.Tables.{Tables, tablesScript, tablesRefusal}
 use Rattle.specializer.specs.Making.{Stores, suffices, storesSuffice, refusalBefore}
 use Rattle.specializer.specs.Entry.{laterRefusal}
 
 module _ (s : Script) (zs : List ℤ) (fuel : ℕ) where
   pub wrong-settings : ¬ (length zs ≡ staticInputs (s .inputs)) → some (record { number = 12; place = 0 }) ≡ callRefusal s zs fuel
-  unfolding callRefusal refusedBy orElse
+  unfolding callRefusal refusedUnless orElse
   wrong-settings h = rw (ne-eqb _ _ h)
 
   pub wrong-fuel :
       length zs ≡ staticInputs (s .inputs) → maxFuel < fuel → some (record { number = 13; place = 0 }) ≡ callRefusal s zs fuel
-  unfolding callRefusal refusedBy orElse
+  unfolding callRefusal refusedUnless orElse
   wrong-fuel e h = rw (eq-eqb _ _ e, lt-leb _ _ h)
 
   pub right-call : length zs ≡ staticInputs (s .inputs) → fuel ≤ maxFuel → none ≡ callRefusal s zs fuel
-  unfolding callRefusal refusedBy orElse
+  unfolding callRefusal refusedUnless orElse
   right-call e h = rw (eq-eqb _ _ e, le-leb _ _ h)
 
 -- 1 to 8, then the rest, for stores of these lengths

@@ -1,7 +1,6 @@
 pub mod Start
 pub mod Cells
 pub mod Making
-pub mod Fields
 pub mod Answers
 pub mod Entry
 pub mod EntryDemand

@@ -1,29 +1,30 @@
 // Residual code written as a script: the tree unfolded, children just before their parent, by recursion on falling places. A run that
-// gave code finishes here.
-use crate::Field;
+// gave code finishes here. In the recursion places and numbers of nodes are plain numbers, since a struct goes through memory at a
+// call.
 use crate::Finish;
-use crate::Part;
-use crate::Room;
 use crate::code;
 use crate::limits::MAX_HEIGHT;
 use crate::limits::MAX_NODES;
 use crate::size;
 use file::writer;
-use machine::cell;
 use script::Counts;
 use script::Refusal;
+use script::word;
 ghost use Prim.Native.Nat.{ℕ, _+_, _*_, _<_, _≤_};
 ghost use mathlib.Core.Path.{_≡_};
 ghost use mathlib.Core.Bool.{true};
 ghost use Rattle.lambdamix.specs.Script.{Script};
-ghost use Rattle.lambdamix.specs.Code.{lit, node, size, fits, top, nodesFrom, written};
+ghost use Rattle.lambdamix.specs.Code.{lit, node, size, fits, top, after, written};
 ghost use Rattle.lambdamix.specs.Specializing.{finished};
-ghost use Rattle.script.specs.File.{nodeBytes, records, numbered, fileBytes};
+ghost use Rattle.script.specs.File.{nodeBytes, numbered, fileBytes};
+ghost use Rattle.script.specs.Words.{wordKind};
 ghost use Rattle.file.specs.Written.{Put, inputRow};
-ghost use Rattle.specializer.specs.Cells.{codeAt};
-ghost use Rattle.specializer.specs.Fields.{codeBelow, partNext};
+ghost use Rattle.specializer.specs.Cells.{twoPieces, threePieces, codeAt, codeBelow};
 ghost use Rattle.specializer.specs.Making.{afterRun};
-ghost use Rattle.specializer.specs.Answers.{Emits, EmitsPart, outcome};
+ghost use Rattle.specializer.specs.Answers.{Emits, EmitsOver, twoNode, threeNode, outcome};
+
+// Room for the most nodes, as the count has it.
+const ALL_NODES: u16 = MAX_NODES + 1;
 
 // One node as number k, where node 0 stands at base.
 fn emit_node(out: &mut [u8], base: usize, k: u16, kind: u8, a: u16, b: u16, c: u16, z: i32)
@@ -33,48 +34,66 @@ fn emit_node(out: &mut [u8], base: usize, k: u16, kind: u8, a: u16, b: u16, c: u
     writer::node_at(out, base + 13 * (k as usize), kind, a, b, c, z)
 }
 
-// A constant node and its lift.
-fn emit_constant(out: &mut [u8], base: usize, k: u16, z: i32)
-    requires { ⌜ (base < 1000000) × (k < 4096) ⌝ }
-    ensures { λ r. ⌜ Put (now (out .entry)) (base + 13 * k) (records nodeBytes (nodesFrom k (lit z))) (now (out .exit)) ⌝ }
+// A constant node and its lift; the answer is the number of the last node, here and below.
+fn emit_constant(out: &mut [u8], base: usize, k: u16, z: i32) -> u16
+    requires { ⌜ (base < 1000000) × (k + 1 < 4096) ⌝ }
+    ensures { λ r. ⌜ Emits (lit z) base k (now (out .entry)) (now (out .exit)) r ⌝ }
 {
     emit_node(out, base, k, 0, 0, 0, 0, z);
     emit_node(out, base, k + 1, 2, k, 0, 0, 0);
+    k + 1
 }
 
-// The code at p as nodes from number k on; the answer is the last.
+// The code at p as nodes from number k on.
 fn emit(codes: &[u64], p: u16, out: &mut [u8], base: usize, k: u16) -> u16
     requires { ⌜ (base < 1000000) × (top k (codeAt (now codes) p) < 4096) ⌝ }
     ensures { λ r. ⌜ Emits (codeAt (now (codes .entry)) p) base k (now (out .entry)) (now (out .exit)) r ⌝ }
 {
-    let x = cell::word_at(codes, p);
-    let kind = code::kind(x);
-    if kind == 0 {
-        emit_constant(out, base, k, code::constant(x));
-        return k + 1;
+    let x = word::word_at(codes, p);
+    match word::kind(x) {
+        1 => {
+            emit_node(out, base, k, 1, word::field_a(x), 0, 0, 0);
+            k
+        }
+        8 => {
+            let n = emit_piece(codes, p, word::field_c(x), out, base, k);
+            emit_node(out, base, n + 1, 8, word::field_a(x), 0, n, 0);
+            n + 1
+        }
+        9 | 12 => emit_two(codes, p, x, out, base, k),
+        10 => {
+            let n = emit_piece(codes, p, word::field_a(x), out, base, k);
+            emit_node(out, base, n + 1, 10, n, 0, 0, 0);
+            n + 1
+        }
+        11 => emit_three(codes, p, x, out, base, k),
+        _ => emit_constant(out, base, k, word::value(x)),
     }
-    let a = emit_field(codes, p, code::field_at(codes, p, 0), out, base, k);
-    let b = emit_field(codes, p, code::field_at(codes, p, 1), out, base, a.next);
-    let c = emit_field(codes, p, code::field_at(codes, p, 2), out, base, b.next);
-    emit_node(out, base, c.next, kind, a.field, b.field, c.field, 0);
-    c.next
 }
 
-// A field of the cell at p, its piece first.
-fn emit_field(codes: &[u64], p: u16, f: Field, out: &mut [u8], base: usize, k: u16) -> Part
-    requires { ⌜ (base < 1000000) × (partNext (codeBelow (now codes) p) f k ≤ 4096) ⌝ }
-    ensures { λ r. ⌜ EmitsPart (codeBelow (now (codes .entry)) p) f base k (now (out .entry)) (now (out .exit)) r ⌝ }
+// Two pieces of the cell x at p, and the node over them.
+fn emit_two(codes: &[u64], p: u16, x: u64, out: &mut [u8], base: usize, k: u16) -> u16
+    requires { ⌜ (base < 1000000) × ((wordKind x < 256) × (after k (twoPieces (codeBelow (now codes) p) x) < 4096)) ⌝ }
+    ensures { λ r. ⌜ EmitsOver (twoPieces (codeBelow (now (codes .entry)) p) x) (twoNode x) base k (now (out .entry)) (now (out .exit)) r ⌝ }
 {
-    match f {
-        Field::Child(q) => {
-            let n = emit_piece(codes, p, q, out, base, k);
-            Part {
-                field: n,
-                next: n + 1,
-            }
-        }
-        Field::Plain(v) => Part { field: v, next: k },
-    }
+    let a = emit_piece(codes, p, word::field_a(x), out, base, k);
+    let b = emit_piece(codes, p, word::field_b(x), out, base, a + 1);
+    let kind = word::kind(x);
+    let c = code::last_field(kind, word::field_c(x));
+    emit_node(out, base, b + 1, kind as u8, a, b, c, 0);
+    b + 1
+}
+
+// Three pieces, and the if over them.
+fn emit_three(codes: &[u64], p: u16, x: u64, out: &mut [u8], base: usize, k: u16) -> u16
+    requires { ⌜ (base < 1000000) × (after k (threePieces (codeBelow (now codes) p) x) < 4096) ⌝ }
+    ensures { λ r. ⌜ EmitsOver (threePieces (codeBelow (now (codes .entry)) p) x) threeNode base k (now (out .entry)) (now (out .exit)) r ⌝ }
+{
+    let a = emit_piece(codes, p, word::field_a(x), out, base, k);
+    let b = emit_piece(codes, p, word::field_b(x), out, base, a + 1);
+    let c = emit_piece(codes, p, word::field_c(x), out, base, b + 1);
+    emit_node(out, base, c + 1, 11, a, b, c, 0);
+    c + 1
 }
 
 // The code at q if that is below p; else a constant.
@@ -83,8 +102,7 @@ fn emit_piece(codes: &[u64], p: u16, q: u16, out: &mut [u8], base: usize, k: u16
     ensures { λ r. ⌜ Emits (codeBelow (now (codes .entry)) p q) base k (now (out .entry)) (now (out .exit)) r ⌝ }
 {
     if p <= q {
-        emit_constant(out, base, k, 0);
-        return k + 1;
+        return emit_constant(out, base, k, 0);
     }
     emit(codes, q, out, base, k)
 }
@@ -131,12 +149,12 @@ fn finish_file(
 pub fn finish(codes: &[u64], p: u16, inputs: &[u16], count: u16, out: &mut [u8]) -> Finish
     ensures { λ r. ⌜ ((s : Script) (k : ℕ) → s .inputs ≡ numbered (inputRow (now (inputs .entry))) 0 count → outcome r k (now (out .exit)) ≡ afterRun s (finished (codeAt (now (codes .entry)) p) k) (now (out .entry))) ⌝ }
 {
-    let room = size::spend(codes, p, MAX_NODES, MAX_HEIGHT);
-    let Room::Left(left) = room else {
+    let room = size::spend(codes, p, ALL_NODES, MAX_HEIGHT);
+    if room == 0 {
         return Finish::Refused(Refusal {
             number: 26,
             place: 0,
         });
-    };
-    finish_file(codes, p, inputs, count, MAX_NODES - left, out)
+    }
+    finish_file(codes, p, inputs, count, ALL_NODES - room, out)
 }

@@ -11,24 +11,6 @@ pub mod start;
 
 use script::Refusal;
 
-// A field of a code cell as the written node has it: where a piece of code stands, or a number.
-pub enum Field {
-    Child(u16),
-    Plain(u16),
-}
-
-// What is left of the nodes that a written tree may have.
-pub enum Room {
-    Left(u16),
-    Over,
-}
-
-// A field of a written node, and the number of the node that is written next.
-pub struct Part {
-    pub field: u16,
-    pub next: u16,
-}
-
 // How a run that gave code ends: with the count of its written nodes, or without a file.
 pub enum Finish {
     Written(u16),

@@ -1,15 +1,12 @@
 // The written tree of code is counted before it is written, by recursion on falling places. A shared piece counts each time; where
-// nodes or height give out, the count ends.
-use crate::Field;
-use crate::Room;
-use crate::code;
-use machine::cell;
+// nodes or height give out, the count ends. What is left is one number: the nodes and one more, or 0. In the recursion all are plain
+// numbers, since a struct or an enum goes through memory at a call.
+use script::word;
 ghost use Prim.Native.Nat.{_-_};
 ghost use mathlib.Core.Path.{_≡_};
-ghost use lib.Dec.{eqb};
-ghost use Rattle.specializer.specs.Cells.{codeAt, spendLeaf, spend};
-ghost use Rattle.specializer.specs.Fields.{codeBelow, ownNodes, spendField};
-ghost use Rattle.specializer.specs.Answers.{roomOf};
+ghost use lib.IntN.{pos};
+ghost use Rattle.lambdamix.specs.Code.{lit, ref};
+ghost use Rattle.specializer.specs.Cells.{codeAt, codeBelow, spendOne, roomOf};
 
 fn lower(height: u16) -> u16
     ensures { λ r. ⌜ r ≡ height - 1 ⌝ }
@@ -20,60 +17,59 @@ fn lower(height: u16) -> u16
     height - 1
 }
 
-// k nodes, k high.
-fn spend_leaf(k: u16, nodes: u16, height: u16) -> Room
-    ensures { λ r. ⌜ roomOf r ≡ spendLeaf k nodes height ⌝ }
+// One node, as a variable is.
+fn spend_node(room: u16, height: u16) -> u16
+    ensures { λ r. ⌜ roomOf r ≡ spendOne (ref 0) (roomOf room) height ⌝ }
 {
-    if nodes < k {
-        return Room::Over;
+    if room < 2 {
+        return 0;
     }
-    if height < k {
-        return Room::Over;
+    if height == 0 {
+        return 0;
     }
-    Room::Left(nodes - k)
+    room - 1
 }
 
-// A cell without its pieces.
-fn spend_own(kind: u8, nodes: u16, height: u16) -> Room
-    ensures { λ r. ⌜ roomOf r ≡ spendLeaf (ownNodes (eqb kind 0)) nodes height ⌝ }
+// A constant under its lift.
+fn spend_constant(room: u16, height: u16) -> u16
+    ensures { λ r. ⌜ roomOf r ≡ spendOne (lit (pos 0)) (roomOf room) height ⌝ }
 {
-    if kind == 0 {
-        return spend_leaf(2, nodes, height);
-    }
-    spend_leaf(1, nodes, height)
+    spend_node(spend_node(room, height), lower(height))
 }
 
 // The code at p.
-pub fn spend(codes: &[u64], p: u16, nodes: u16, height: u16) -> Room
-    ensures { λ r. ⌜ roomOf r ≡ spend (codeAt (now (codes .entry)) p) nodes height ⌝ }
+pub fn spend(codes: &[u64], p: u16, room: u16, height: u16) -> u16
+    ensures { λ r. ⌜ roomOf r ≡ spendOne (codeAt (now (codes .entry)) p) (roomOf room) height ⌝ }
 {
-    let kind = code::kind(cell::word_at(codes, p));
+    let x = word::word_at(codes, p);
+    let left = spend_node(room, height);
     let low = lower(height);
-    let own = spend_own(kind, nodes, height);
-    let a = spend_field(codes, p, code::field_at(codes, p, 0), own, low);
-    let b = spend_field(codes, p, code::field_at(codes, p, 1), a, low);
-    spend_field(codes, p, code::field_at(codes, p, 2), b, low)
-}
-
-// A field of the cell at p.
-fn spend_field(codes: &[u64], p: u16, f: Field, room: Room, height: u16) -> Room
-    ensures { λ r. ⌜ roomOf r ≡ spendField (codeBelow (now (codes .entry)) p) f (roomOf room) height ⌝ }
-{
-    let Field::Child(q) = f else {
-        return room;
-    };
-    let Room::Left(nodes) = room else {
-        return Room::Over;
-    };
-    spend_piece(codes, p, q, nodes, height)
-}
-
-// The code at q if that is below p; else it counts as a constant.
-fn spend_piece(codes: &[u64], p: u16, q: u16, nodes: u16, height: u16) -> Room
-    ensures { λ r. ⌜ roomOf r ≡ spend (codeBelow (now (codes .entry)) p q) nodes height ⌝ }
-{
-    if p <= q {
-        return spend_leaf(2, nodes, height);
+    match word::kind(x) {
+        1 => left,
+        8 => spend_piece(codes, p, word::field_c(x), left, low),
+        9 | 12 => {
+            let a = spend_piece(codes, p, word::field_a(x), left, low);
+            spend_piece(codes, p, word::field_b(x), a, low)
+        }
+        10 => spend_piece(codes, p, word::field_a(x), left, low),
+        11 => {
+            let a = spend_piece(codes, p, word::field_a(x), left, low);
+            let b = spend_piece(codes, p, word::field_b(x), a, low);
+            spend_piece(codes, p, word::field_c(x), b, low)
+        }
+        _ => spend_node(left, low),
     }
-    spend(codes, q, nodes, height)
+}
+
+// The code at q if that is below p, else a constant; nothing where nothing is left.
+fn spend_piece(codes: &[u64], p: u16, q: u16, room: u16, height: u16) -> u16
+    ensures { λ r. ⌜ roomOf r ≡ spendOne (codeBelow (now (codes .entry)) p q) (roomOf room) height ⌝ }
+{
+    if room == 0 {
+        return 0;
+    }
+    if p <= q {
+        return spend_constant(room, height);
+    }
+    spend(codes, q, room, height)
 }

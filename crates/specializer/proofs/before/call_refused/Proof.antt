@@ -10,11 +10,13 @@ use Rattle.specializer.proofs.before.call_refused.Tie as tie
 
 returns : tie.Need-returns
 unfolding laterRefusal
-returns c = λ vs zs p l. refused-first _ (c .before .before .before .annotation-by .ensures vs p) (c .before .f .given .1)
+returns c = λ ks xs ys zs vs ok p ss l. refused-first _ (c .before .before .before .annotation-by .ensures ks xs ys zs vs ok p) (c .before .f .given .1)
 
 returns-2 : tie.Need-returns-2
 unfolding laterRefusal tablesScript rowInput inputRow
-returns-2 c = λ vs zs p l. passed-first _ _ (c .before .before .before .annotation-by .ensures vs p) (c .before .enum-told .given .1) (λ e. c .late-refusal .ensures _ zs refl l)
+returns-2 c =
+    λ ks xs ys zs vs ok p ss l. passed-first _ _ (c .before .before .before .annotation-by .ensures ks xs ys zs vs ok p) (c .before .enum-told .given .1)
+    (λ e. c .late-refusal .ensures _ ss refl l)
 
 pub call-refused-spec : {M : Type 1} → statement M
 call-refused-spec =

@@ -1,12 +1,10 @@
 -- `specializer::code::operator` meets its contract: an operator's number stands for it, and any other counts as 0. Assumes nothing.
-use Rattle.specializer.specs.Fields.{writtenOperator}
 use Rattle.machine.proofs.Nodes.{operator-number}
-use Rattle.specializer.proofs.FieldLaws.{past-operators}
+use Rattle.specializer.proofs.CellLaws.{past-operators}
 use Rattle.specializer.proofs.code.operator.Statement.{statement}
 use Rattle.specializer.proofs.code.operator.Tie as tie
 
 returns : tie.Need-returns
-unfolding writtenOperator
 returns c = operator-number _ (c .if1 .taken)
 
 returns-2 : tie.Need-returns-2
