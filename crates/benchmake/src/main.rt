@@ -4,6 +4,13 @@ use libc::STDIN_FILENO;
 use libc::STDOUT_FILENO;
 use respond::Response;
 use respond::answer::respond;
+use respond::limits::CELLS;
+use respond::limits::CODES;
+use respond::limits::MAX_BYTES;
+use respond::limits::SETTINGS;
+use script::limits::MAX_INPUTS;
+use script::limits::MAX_NODES;
+use script::limits::MAX_TYPES;
 ghost use Prim.Native.Nat.{_≤_};
 ghost use lib.ListN.{length};
 ghost use Rattle.respond.specs.Response.{response};
@@ -14,19 +21,19 @@ fn answer(input: &[u8], out: &mut [u8]) -> usize
     requires { ⌜ 65536 ≤ length (now out) ⌝ }
     ensures { λ r. ⌜ Writes (response (now (input .entry))) (now (out .entry)) (now (out .exit)) r ⌝ }
 {
-    let mut parameters = [0u16; 64];
-    let mut results = [0u16; 64];
-    let mut inputs = [0u16; 16];
-    let mut kinds = [0u8; 4096];
-    let mut a = [0u16; 4096];
-    let mut b = [0u16; 4096];
-    let mut c = [0u16; 4096];
-    let mut values = [0i32; 4096];
-    let mut settings = [0i32; 17];
-    let mut cells = [0u32; 4016];
-    let mut words = [0u64; 4016];
-    let mut codes = [0u64; 8016];
-    let mut file = [0u8; 65536];
+    let mut parameters = [0u16; MAX_TYPES];
+    let mut results = [0u16; MAX_TYPES];
+    let mut inputs = [0u16; MAX_INPUTS];
+    let mut kinds = [0u8; MAX_NODES];
+    let mut a = [0u16; MAX_NODES];
+    let mut b = [0u16; MAX_NODES];
+    let mut c = [0u16; MAX_NODES];
+    let mut values = [0i32; MAX_NODES];
+    let mut settings = [0i32; SETTINGS];
+    let mut cells = [0u32; CELLS];
+    let mut words = [0u64; CELLS];
+    let mut codes = [0u64; CODES];
+    let mut file = [0u8; MAX_BYTES];
     match respond(
         input,
         &mut parameters,
@@ -80,7 +87,7 @@ fn main() {
     if n == 65536 {
         drain();
     }
-    let mut out = [0u8; 65536];
+    let mut out = [0u8; MAX_BYTES];
     let k = answer(&space[..n], &mut out);
     print(&out, k);
 }

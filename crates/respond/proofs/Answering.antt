@@ -30,7 +30,7 @@ use Rattle.file.specs.Heads.{headCounts}
 use Rattle.script.specs.Tables.{Tables, over}
 use Rattle.script.proofs.RefusalLaws.{neither}
 use Rattle.file.proofs.FileLaws.{file-length, file-refusal, read-written}
-use Rattle.file.proofs.AcceptedAgain.{written-again}
+use Rattle.file.proofs.AcceptedAgain.{written-again, values-fit}
 use Rattle.specializer.specs.Making.{Stores, storesSuffice, storesAfter, numbered}
 use Rattle.specializer.specs.declared.Reply.{Reply}
 use Rattle.specializer.specs.declared.Reply.the-variants as Reply
@@ -42,7 +42,6 @@ use Rattle.respond.specs.Stages.{Prints, countsText, PrintsMade, Held, A
 use Rattle.respond.proofs.Files.{script-counts, script-passes, few-inputs}
 use Rattle.respond.proofs.GivenSettings.{given-refusal, given-reply, settings-fit}
 use Rattle.respond.proofs.Making.{before-is, making-is, made-told, unmade-told}
-use Rattle.respond.proofs.ValuesFit.{values-fit}
 
 -- ---- the file of code that fits
 

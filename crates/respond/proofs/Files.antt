@@ -8,11 +8,11 @@ use native.Mathlib.Omega.{arith}
 use lib.ListN.{length}
 use lib.Dec.{leb}
 use borrow.Author.Tests.{le-leb, leb-true}
-use Rattle.lambdamix.specs.Structure.{orElse, structureRefusal}
+use Rattle.lambdamix.specs.Structure.{orElse, structureRefusal, refusedUnless}
 use Rattle.lambdamix.proofs.Tests.{and-both, and-intro}
 use Rattle.script.specs.declared.Counts.{Counts}
 use Rattle.script.specs.File.{headTypes, headInputs, headNodes, scriptIn}
-use Rattle.script.specs.Refusals.{refusedUnless, countsRight, contentRefusal, scriptRefusal, bodyRefusal, fileRefusal}
+use Rattle.script.specs.Refusals.{countsRight, contentRefusal, scriptRefusal, bodyRefusal, fileRefusal}
 use Rattle.file.specs.Heads.{headCounts}
 use Rattle.script.specs.Tables.{Tables, tablesRefusal, longEnough}
 use Rattle.script.proofs.RefusalLaws.{neither, no-earlier, not-refused, pass-over}

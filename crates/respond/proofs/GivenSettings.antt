@@ -13,8 +13,8 @@ use lib.Dec.{ltb, eqb}
 use borrow.Author.Tests.{ne-eqb, ltb-true, ltb-false}
 use Rattle.lambdamix.specs.Script.{Script}
 use Rattle.lambdamix.specs.Checker.{Refusal, annotationRefusal}
-use Rattle.lambdamix.specs.Structure.{orElse, oneIf}
-use Rattle.lambdamix.specs.Specializing.{unmade, staticInputs, refusedBy, callRefusal, unlessRefused, answerReply, specialized, make}
+use Rattle.lambdamix.specs.Structure.{orElse, oneIf, refusedUnless}
+use Rattle.lambdamix.specs.Specializing.{unmade, staticInputs, callRefusal, unlessRefused, answerReply, specialized, make}
 use Rattle.lambdamix.proofs.Tests.{holds-or-fails}
 use Rattle.lambdamix.proofs.Range.{Fits}
 use Rattle.script.specs.File.{numbered}
@@ -41,7 +41,7 @@ static-few (t ∷ ts) = go (not (eqb t 1)) (static-few ts)
 
 module _ (s : Script) (few : length (s .inputs) ≤ 16) where
   too-many : (zs : List ℤ) → 16 < length zs → callRefusal s zs programFuel ≡ twelve
-  unfolding callRefusal refusedBy orElse
+  unfolding callRefusal refusedUnless orElse
   too-many zs h = rw (ne-eqb (length zs) (staticInputs (s .inputs)) (λ e. omega (arith, static-few (s .inputs))))
 
   -- ---- the refusal of settings that are given

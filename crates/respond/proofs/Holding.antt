@@ -10,7 +10,7 @@ use lib.Dec.{leb}
 use borrow.Author.Tests.{le-leb, leb-true}
 use Rattle.lambdamix.specs.Script.{Script, FunctionType, Node, nodeCount}
 use Rattle.lambdamix.specs.Checker.{Refusal}
-use Rattle.lambdamix.specs.Structure.{orElse}
+use Rattle.lambdamix.specs.Structure.{orElse, refusedUnless}
 use Rattle.lambdamix.specs.Listing.{listing}
 use Rattle.lambdamix.proofs.Tests.{and-both, and-intro}
 use Rattle.script.specs.declared.Counts.{Counts}
@@ -18,7 +18,7 @@ use Rattle.script.specs.declared.Refusal as Told
 use Rattle.script.specs.declared.Reading.{Reading}
 use Rattle.script.specs.declared.Reading.the-variants as Reading
 use Rattle.script.specs.File.{fileLength, headTypes, headInputs, headNodes, scriptIn}
-use Rattle.script.specs.Refusals.{refusedUnless, fileRefusal}
+use Rattle.script.specs.Refusals.{fileRefusal}
 use Rattle.file.specs.Heads.{headCounts}
 use Rattle.file.specs.Encodable.{AllBytes}
 use Rattle.script.specs.Tables.{Tables, over, filled, longEnough, readRefusal, readTables}

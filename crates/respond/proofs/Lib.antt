@@ -4,7 +4,6 @@ pub mod GivenSettings
 pub mod Files
 pub mod Holding
 pub mod Making
-pub mod ValuesFit
 pub mod Answering
 pub mod Responding
 pub mod Longer

@@ -8,11 +8,10 @@ use native.Mathlib.Omega.{arith}
 use lib.ListN.{length, take, drop, length-append, length-take, length-drop}
 use lib.Dec.{ltb}
 use borrow.Author.Tests.{le-leb}
-use Rattle.lambdamix.specs.Structure.{orElse}
+use Rattle.lambdamix.specs.Structure.{orElse, refusedUnless}
 use Rattle.lambdamix.specs.Text.{ascii, digits}
 use Rattle.script.specs.declared.Counts.{Counts}
 use Rattle.script.specs.declared.Refusal as Told
-use Rattle.script.specs.Refusals.{refusedUnless}
 use Rattle.script.specs.Tables.{Tables, tablesRefusal}
 use Rattle.printer.specs.declared.Listing.{Listing}
 use Rattle.printer.specs.declared.Listing.the-variants.{Listed, Refused}

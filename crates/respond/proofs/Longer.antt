@@ -11,12 +11,12 @@ use lib.Seq.{take-all, take-take, getD-take, length-take-le}
 use lib.Dec.{leb, ltb}
 use borrow.Author.Tests.{le-leb}
 use Rattle.lambdamix.specs.Checker.{Refusal, annotationRefusal}
-use Rattle.lambdamix.specs.Structure.{orElse}
+use Rattle.lambdamix.specs.Structure.{orElse, refusedUnless}
 use Rattle.lambdamix.specs.Specializing.{unmade, unlessRefused}
 use Rattle.lambdamix.proofs.Tests.{and-both}
 use Rattle.script.specs.Bytes.{byteAt, word16}
 use Rattle.script.specs.File.{fileLength, nodeOffset, headTypes, headInputs, headNodes, scriptIn}
-use Rattle.script.specs.Refusals.{refusedUnless, marked, headMarked, countsRight, fileRefusal}
+use Rattle.script.specs.Refusals.{marked, headMarked, countsRight, fileRefusal}
 use Rattle.file.proofs.ContentLaws.{in-limits}
 use Rattle.respond.specs.Response.{headRight, scriptLengthBy, scriptLength, scriptPart, settingsPart, inputReply, replyTo, unmadeText, replyText, response}
 use Rattle.respond.proofs.Files.{few-inputs}

@@ -10,13 +10,12 @@ use lib.ListN.{length}
 use lib.Dec.{leb}
 use Rattle.lambdamix.specs.Script.{Script}
 use Rattle.lambdamix.specs.Checker.{Refusal, annotationRefusal}
-use Rattle.lambdamix.specs.Structure.{orElse}
+use Rattle.lambdamix.specs.Structure.{orElse, refusedUnless}
 use Rattle.lambdamix.specs.Code.{Code, size, fits, written}
 use Rattle.lambdamix.specs.Specializing as Calculus
 use Rattle.lambdamix.specs.Specializing.{Answer, finished, halted, specialized, callRefusal, unlessRefused, madeBy, answerReply}
 use Rattle.script.specs.declared.Counts.{Counts}
 use Rattle.script.specs.File.{fileBytes, scriptIn}
-use Rattle.script.specs.Refusals.{refusedUnless}
 use Rattle.script.specs.Tables.{Tables, over}
 use Rattle.specializer.specs.Making.{Stores, storesSuffice, annotationBy, refusalBefore, Reply, made, unmade, Made, writtenBy, afterRun, madeUnless, making}
 use Rattle.respond.specs.Response.{programFuel}

@@ -1,5 +1,6 @@
 // What the program answers to its input.
 pub mod answer;
+pub mod limits;
 mod print;
 mod room;
 mod settings;

@@ -1,6 +1,13 @@
 // Whether what is lent suffices for every input.
+use crate::limits::CELLS;
+use crate::limits::CODES;
+use crate::limits::MAX_BYTES;
+use crate::limits::SETTINGS;
 use file::tables::long_enough;
 use script::Counts;
+use script::limits::MAX_INPUTS;
+use script::limits::MAX_NODES;
+use script::limits::MAX_TYPES;
 ghost use mathlib.Core.Path.{_≡_};
 ghost use mathlib.Core.Bool.{_&&_};
 ghost use lib.Dec.{leb};
@@ -17,22 +24,22 @@ fn rest_suffices(
 ) -> bool
     ensures { λ r. ⌜ r ≡ (leb 17 settings && ((leb 4016 cells && (leb 4016 words && leb 8016 codes)) && (leb 65536 file && leb 65536 out))) ⌝ }
 {
-    if settings < 17 {
+    if settings < SETTINGS {
         return false;
     }
-    if cells < 4016 {
+    if cells < CELLS {
         return false;
     }
-    if words < 4016 {
+    if words < CELLS {
         return false;
     }
-    if codes < 8016 {
+    if codes < CODES {
         return false;
     }
-    if file < 65536 {
+    if file < MAX_BYTES {
         return false;
     }
-    65536 <= out
+    MAX_BYTES <= out
 }
 
 pub(crate) fn suffices(
@@ -54,9 +61,9 @@ pub(crate) fn suffices(
     ensures { λ r. ⌜ Suffices parameters results inputs kinds a b c values settings cells words codes file out r ⌝ }
 {
     let n = Counts {
-        types: 64,
-        inputs: 16,
-        nodes: 4096,
+        types: MAX_TYPES as u16,
+        inputs: MAX_INPUTS as u16,
+        nodes: MAX_NODES as u16,
     };
     if long_enough(n, parameters, results, inputs, kinds, a, b, c, values) {
         return rest_suffices(settings, cells, words, codes, file, out);

@@ -1,4 +1,5 @@
 // The settings behind a script: a record `SV` for each.
+use crate::limits::SETTINGS;
 use crate::split::is_marked;
 use file::bytes::value32;
 use script::column::put32;
@@ -34,16 +35,16 @@ pub(crate) fn given_count(s: &[u8]) -> usize
 {
     let length = s.len();
     let count = length / 6;
-    if count < 17 {
+    if count < SETTINGS {
         if length % 6 == 0 {
             if all_marked(s, count) {
                 return count;
             }
-            return 17;
+            return SETTINGS;
         }
-        return 17;
+        return SETTINGS;
     }
-    17
+    SETTINGS
 }
 
 // The values of the first records into the lent settings.

@@ -1,4 +1,5 @@
 // The stages between reading and printing: the maker with the settings behind a script, and the listing of the file that it wrote.
+use crate::limits::FUEL;
 use crate::print::list_at;
 use crate::print::print_counts;
 use crate::print::print_unmade;
@@ -57,7 +58,7 @@ fn make_given(
         c,
         values,
         &settings[first..count],
-        4000,
+        FUEL as u32,
         cells,
         words,
         codes,

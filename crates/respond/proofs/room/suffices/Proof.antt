@@ -11,4 +11,4 @@ returns-2 : tie.Need-returns-2
 returns-2 c = record { told = rw (sym (c .before .long-enough .ensures) ∙ c .if1 .left) }
 
 pub suffices-spec : {M : Type 1} → statement M
-suffices-spec = tie.close (tie.spec (λ c κs. search needs) (λ c κs. search needs) returns returns-2)
+suffices-spec = tie.close (tie.spec (λ c. search needs) (λ c. search needs) (λ c. search needs) (λ c κs. search needs) (λ c κs. search needs) returns returns-2)

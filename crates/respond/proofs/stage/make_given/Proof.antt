@@ -24,6 +24,7 @@ make-given-spec =
     (λ c. search needs)
     (λ c. search needs)
     part-make-end
+    (λ c. search needs)
     (λ c κs. search needs)
     (λ c. search needs)
     (λ c. search needs)

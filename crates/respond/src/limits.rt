@@ -1,0 +1,13 @@
+// What the program's answer works with, each in one place: its fuel, what suffices for every script, and the most bytes of a file and of
+// an answer.
+use script::limits::MAX_INPUTS;
+
+pub const FUEL: usize = 4000;
+
+pub const SETTINGS: usize = MAX_INPUTS + 1;
+
+pub const CELLS: usize = FUEL + MAX_INPUTS;
+
+pub const CODES: usize = 2 * FUEL + MAX_INPUTS;
+
+pub const MAX_BYTES: usize = 65536;
