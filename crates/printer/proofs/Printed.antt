@@ -11,7 +11,7 @@ use lib.ListN.{length}
 use lib.Dec.{leb}
 use borrow.Author.Tests.{le-leb, lt-leb}
 use Rattle.lambdamix.specs.Script.{Script, Node, nodeAt, nodeCount, inputCount, root, blankNode}
-use Rattle.lambdamix.specs.Structure.{orElse}
+use Rattle.lambdamix.specs.Structure.{orElse, refusedUnless}
 use Rattle.lambdamix.specs.Text.{ascii}
 use Rattle.lambdamix.specs.Listing.{listing}
 use Rattle.script.specs.declared.Counts.{Counts}
@@ -21,7 +21,6 @@ use Rattle.script.specs.declared.Verdict.the-variants as Verdict
 use Rattle.script.specs.Replies.{refusalOf}
 use Rattle.printer.specs.declared.Listing.{Listing}
 use Rattle.script.specs.File.{numbered}
-use Rattle.script.specs.Refusals.{refusedUnless}
 use Rattle.script.specs.Tables.{Tables, rowNode, rowInput, tablesScript, tablesRefusal, over}
 use Rattle.script.proofs.RefusalLaws.{neither}
 use Rattle.file.proofs.RecordLaws.{numbered-length, numbered-at}

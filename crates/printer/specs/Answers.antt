@@ -7,10 +7,9 @@ use lib.IntN.{ℤ}
 use lib.ListN.{length}
 use lib.Dec.{leb}
 use Rattle.lambdamix.specs.Checker.{Refusal}
-use Rattle.lambdamix.specs.Structure.{orElse}
+use Rattle.lambdamix.specs.Structure.{orElse, refusedUnless}
 use Rattle.lambdamix.specs.Listing as Text
 use Rattle.script.specs.declared.Counts.{Counts}
-use Rattle.script.specs.Refusals.{refusedUnless}
 use Rattle.script.specs.Tables.{Tables, tablesScript, tablesRefusal, over}
 use Rattle.printer.specs.declared.Listing.{Listing}
 use Rattle.printer.specs.declared.Listing.the-variants.{Listed, Refused}
