@@ -1,8 +1,6 @@
--- What is refused before a run, joined from its tests: 12 and 13 from the settings' count and the fuel, 20 from the stores' lengths, and
--- each check's reply where the one before it passed. Assumes nothing.
+-- What the tests of a call say: 12 and 13 from the settings' count and the fuel. Assumes nothing.
 use Prim.Native.Nat.{ℕ, _≤_, _<_}
 use mathlib.Core.Path.{_≡_}
-use mathlib.Core.Bool.{Bool}
 use mathlib.Core.List.{List}
 use mathlib.Core.Option.{none, some}
 use lib.IntN.{ℤ}
@@ -12,9 +10,6 @@ use Rattle.lambdamix.specs.Limits.{maxFuel}
 use Rattle.lambdamix.specs.Script.{Script}
 use Rattle.lambdamix.specs.Structure.{orElse, refusedUnless}
 use Rattle.lambdamix.specs.Specializing.{callRefusal, staticInputs}
-use Rattle.script.specs.Tables.{Tables, tablesScript, tablesRefusal}
-use Rattle.specializer.specs.Making.{Stores, suffices, storesSuffice, refusalBefore}
-use Rattle.specializer.specs.Entry.{laterRefusal}
 
 module _ (s : Script) (zs : List ℤ) (fuel : ℕ) where
   pub wrong-settings : ¬ (length zs ≡ staticInputs (s .inputs)) → some (record { number = 12; place = 0 }) ≡ callRefusal s zs fuel
@@ -29,12 +24,3 @@ module _ (s : Script) (zs : List ℤ) (fuel : ℕ) where
   pub right-call : length zs ≡ staticInputs (s .inputs) → fuel ≤ maxFuel → none ≡ callRefusal s zs fuel
   unfolding callRefusal refusedUnless orElse
   right-call e h = rw (eq-eqb _ _ e, le-leb _ _ h)
-
--- 1 to 8, then the rest, for stores of these lengths
-pub refusal-joined :
-    (bare : Bool) (t i n : ℕ) (x : Tables) (zs : List ℤ) (fuel : ℕ) (m : Stores) {cells words codes : ℕ} →
-    length (m .cells) ≡ cells → length (m .words) ≡ words → length (m .codes) ≡ codes →
-    refusalBefore bare t i n x zs fuel m
-    ≡ orElse (tablesRefusal t i n x) (laterRefusal bare (tablesScript t i n x) zs fuel (suffices fuel cells words codes))
-unfolding refusalBefore laterRefusal storesSuffice
-refusal-joined bare t i n x zs fuel m e f g = rw (e, f, g)
