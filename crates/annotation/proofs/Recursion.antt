@@ -14,7 +14,7 @@ use Rattle.lambdamix.specs.Checker.{check}
 use Rattle.script.specs.Words.{wordKind, wordA, wordB, wordC}
 use Rattle.script.proofs.TreeForms.{All}
 use Rattle.annotation.specs.Answers.{pick, typeAnswer, Stands}
-use Rattle.annotation.specs.Walks.{Lent, Pair, Binds, bound, Agree, Pushed, Answers, ChildAnswers, OneChild, lifts, fixes, fixes-late, TwoChildren, applies, operates, applies-late, operates-late, ThreeChildren, chooses, chooses-late, BindsName, abstracts, abstracts-late, WordOf, Stand, none-left, and-then, Ruled, BinderRuled}
+use Rattle.annotation.specs.Walks.{Lent, Pair, Binds, bound, Agree, Pushed, Answers, ChildAnswers, OneChild, lifts, fixes, fixes-dynamic, TwoChildren, applies, operates, applies-dynamic, operates-dynamic, ThreeChildren, chooses, chooses-dynamic, BindsName, abstracts, abstracts-dynamic, WordOf, Stand, none-left, and-then, Ruled, BinderRuled}
 use Rattle.annotation.proofs.Passing.{sound}
 use Rattle.annotation.proofs.TypeNumbers.{type-zero}
 use Rattle.annotation.proofs.Trees.{Below, kind-known, below-parent, named-type, tree-node, tree-height, node-kind, node-field, node-children}
@@ -67,55 +67,55 @@ one-field : {k : ℕ} (x y z : ℕ) → OneChild k → childFields (getD rows k 
 unfolding rows childFields ifChild
 one-field x y z lifts = refl
 one-field x y z fixes = refl
-one-field x y z fixes-late = refl
+one-field x y z fixes-dynamic = refl
 
 two-fields : {k : ℕ} (x y z : ℕ) → TwoChildren k → childFields (getD rows k blankRow .uses) (x ∷ y ∷ z ∷ []) ≡ x ∷ y ∷ []
 unfolding rows childFields ifChild
 two-fields x y z applies = refl
 two-fields x y z operates = refl
-two-fields x y z applies-late = refl
-two-fields x y z operates-late = refl
+two-fields x y z applies-dynamic = refl
+two-fields x y z operates-dynamic = refl
 
 three-fields : {k : ℕ} (x y z : ℕ) → ThreeChildren k → childFields (getD rows k blankRow .uses) (x ∷ y ∷ z ∷ []) ≡ x ∷ y ∷ z ∷ []
 unfolding rows childFields ifChild
 three-fields x y z chooses = refl
-three-fields x y z chooses-late = refl
+three-fields x y z chooses-dynamic = refl
 
 one-some : {k : ℕ} → OneChild k → 0 < k
 one-some lifts = omega arith
 one-some fixes = omega arith
-one-some fixes-late = omega arith
+one-some fixes-dynamic = omega arith
 
 two-some : {k : ℕ} → TwoChildren k → 0 < k
 two-some applies = omega arith
 two-some operates = omega arith
-two-some applies-late = omega arith
-two-some operates-late = omega arith
+two-some applies-dynamic = omega arith
+two-some operates-dynamic = omega arith
 
 three-some : {k : ℕ} → ThreeChildren k → 0 < k
 three-some chooses = omega arith
-three-some chooses-late = omega arith
+three-some chooses-dynamic = omega arith
 
 -- a node's word has a kind of an arm
 module _ {words : List ℕ} {i w k : ℕ} (o : w ≡ getD words i 0) (e : k ≡ wordKind w) where
   pub of-one : (k ≡ 2) ⊎ ((k ≡ 5) ⊎ (k ≡ 10)) → WordOf words i w OneChild
   of-one (inl q) = record { word = o; kind = rw (← e, q) lifts }
   of-one (inr (inl q)) = record { word = o; kind = rw (← e, q) fixes }
-  of-one (inr (inr q)) = record { word = o; kind = rw (← e, q) fixes-late }
+  of-one (inr (inr q)) = record { word = o; kind = rw (← e, q) fixes-dynamic }
 
   pub of-two : (k ≡ 4) ⊎ ((k ≡ 7) ⊎ ((k ≡ 9) ⊎ (k ≡ 12))) → WordOf words i w TwoChildren
   of-two (inl q) = record { word = o; kind = rw (← e, q) applies }
   of-two (inr (inl q)) = record { word = o; kind = rw (← e, q) operates }
-  of-two (inr (inr (inl q))) = record { word = o; kind = rw (← e, q) applies-late }
-  of-two (inr (inr (inr q))) = record { word = o; kind = rw (← e, q) operates-late }
+  of-two (inr (inr (inl q))) = record { word = o; kind = rw (← e, q) applies-dynamic }
+  of-two (inr (inr (inr q))) = record { word = o; kind = rw (← e, q) operates-dynamic }
 
   pub of-three : (k ≡ 6) ⊎ (k ≡ 11) → WordOf words i w ThreeChildren
   of-three (inl q) = record { word = o; kind = rw (← e, q) chooses }
-  of-three (inr q) = record { word = o; kind = rw (← e, q) chooses-late }
+  of-three (inr q) = record { word = o; kind = rw (← e, q) chooses-dynamic }
 
   pub of-binder : (k ≡ 3) ⊎ (k ≡ 8) → WordOf words i w BindsName
   of-binder (inl q) = record { word = o; kind = rw (← e, q) abstracts }
-  of-binder (inr q) = record { word = o; kind = rw (← e, q) abstracts-late }
+  of-binder (inr q) = record { word = o; kind = rw (← e, q) abstracts-dynamic }
 
 module _ {words ts : List ℕ} {d i w : ℕ} where
   pub at-one :
@@ -150,11 +150,11 @@ module _ {words ts : List ℕ} {d i w : ℕ} where
 body-field : {k : ℕ} (x y z : ℕ) → BindsName k → childFields (getD rows k blankRow .uses) (x ∷ y ∷ z ∷ []) ≡ z ∷ []
 unfolding rows childFields ifChild
 body-field x y z abstracts = refl
-body-field x y z abstracts-late = refl
+body-field x y z abstracts-dynamic = refl
 
 binder-some : {k : ℕ} → BindsName k → 0 < k
 binder-some abstracts = omega arith
-binder-some abstracts-late = omega arith
+binder-some abstracts-dynamic = omega arith
 
 module _ {words ts before pushed after : List ℕ} {d inner i w p v m e : ℕ}
     (o : w ≡ getD words i 0) (pairs : Pair v (wordA w) p) (push : Pushed v d inner before pushed) (f : m ≡ wordC w)
@@ -176,15 +176,15 @@ module _ {words ts before pushed after : List ℕ} {d inner i w p v m e : ℕ}
         let u = rw body-children at (below-parent s ok i h) in
         a .reply (u .0) .reply s _ l (binds-more push (omega arith) pairs known b) (omega (arith, u .0)) (omega (arith, push .kept .same))
 
-    early-tree : wordKind w ≡ 3 → tree s i ≡ lam i (wordA w) (wordB w) (tree s m)
+    static-tree : wordKind w ≡ 3 → tree s i ≡ lam i (wordA w) (wordB w) (tree s m)
     unfolding rowOf rows build childAt terms nodeAt
-    early-tree q =
+    static-tree q =
         let (x, y, _) = node-field l h o (λ z. omega arith) in
         tree-node s (sound s (l .passes)) i h ∙ rw (body-children, node-kind l h o, q, ← x, ← y)
 
-    late-tree : wordKind w ≡ 8 → tree s i ≡ dlam i (wordA w) (tree s m)
+    dynamic-tree : wordKind w ≡ 8 → tree s i ≡ dlam i (wordA w) (tree s m)
     unfolding rowOf rows build childAt terms nodeAt
-    late-tree q =
+    dynamic-tree q =
         let (x, _, _) = node-field l h o (λ z. omega arith) in
         tree-node s (sound s (l .passes)) i h ∙ rw (body-children, node-kind l h o, q, ← x)
 
@@ -196,10 +196,10 @@ module _ {words ts before pushed after : List ℕ} {d inner i w p v m e : ℕ}
         let x : p ≡ wordB w = rw (← q) at pe in
         let (_, y, _) = node-field l h o (λ z. omega arith) in
         let known : p < typeCount s = omega (arith, named-type s (sound s (l .passes)) i h (node-kind l h o ∙ sym q)) in
-        rw (early-tree (sym q), ← x) (rule .early words s Γ (wordA w) (tree s m) refl l h known (body-stands known))
-    binder-stands pe q abstracts-late rule =
+        rw (static-tree (sym q), ← x) (rule .of-static words s Γ (wordA w) (tree s m) refl l h known (body-stands known))
+    binder-stands pe q abstracts-dynamic rule =
         let x : p ≡ 1 = rw (← q) at pe in
-        rw (late-tree (sym q)) (rule .late words s Γ (wordA w) (tree s m) refl l h x (body-stands (omega arith)))
+        rw (dynamic-tree (sym q)) (rule .of-dynamic words s Γ (wordA w) (tree s m) refl l h x (body-stands (omega arith)))
 
   -- Theorem: the answer of a binder whose body is answered.
   pub at-binder :

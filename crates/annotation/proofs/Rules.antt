@@ -16,9 +16,9 @@ use Rattle.lambdamix.specs.Typing.{Context}
 use Rattle.lambdamix.specs.Checker.{Checked, typed, both, gather, rule, own, provided, applyRule, fixRule, abstrBy, abstrRule, dynRule, check, checkAll}
 use Rattle.lambdamix.proofs.Tests.{holds-or-fails}
 use Rattle.annotation.specs.Answers.{Stands, givenBy, lowest}
-use Rattle.annotation.specs.Walks.{Lent, Listing, listed-at, not-listed, OneChild, lifts, fixes, fixes-late, TwoChildren, applies, operates, applies-late, operates-late, ThreeChildren, chooses, chooses-late, Stand, none-left, and-then, BinderRuled}
+use Rattle.annotation.specs.Walks.{Lent, Listing, listed-at, not-listed, OneChild, lifts, fixes, fixes-dynamic, TwoChildren, applies, operates, applies-dynamic, operates-dynamic, ThreeChildren, chooses, chooses-dynamic, Stand, none-left, and-then, BinderRuled}
 use Rattle.annotation.proofs.Passing.{Sound, sound}
-use Rattle.annotation.proofs.TypeNumbers.{pair, parts, type-one, function-type, listed-pair, unlisted-pair, apply-numbers, fix-numbers, lift-numbers, if-numbers, op-numbers, late-one, late-two, late-three, late-function}
+use Rattle.annotation.proofs.TypeNumbers.{pair, parts, type-one, function-type, listed-pair, unlisted-pair, apply-numbers, fix-numbers, lift-numbers, if-numbers, op-numbers, dynamic-one, dynamic-two, dynamic-three, dynamic-function}
 use Rattle.annotation.proofs.Contexts.{type-stands, fault-stands, given-stands}
 use Rattle.annotation.proofs.Faults.{told, told-alone, told-gather, told-both, told-rule, typed-answer}
 
@@ -112,7 +112,7 @@ module _ {s : Script} {words ls : List ℕ} (lent : Lent s words ls) (Γ : Conte
   unfolding rows build childAt check checkAll
   one-fault lifts l (and-then p none-left) = told-rule s i _ (told p) l
   one-fault fixes l (and-then p none-left) = told-rule s i _ (told p) l
-  one-fault fixes-late l (and-then p none-left) = told-rule s i _ (told-gather (told-alone (told p) _)) l
+  one-fault fixes-dynamic l (and-then p none-left) = told-rule s i _ (told-gather (told-alone (told p) _)) l
 
   late-two-fault :
       {e f : ℕ} {ts : Terms} → lowest e f < 1048576 → Stand s Γ (e ∷ f ∷ []) ts →
@@ -126,8 +126,8 @@ module _ {s : Script} {words ls : List ℕ} (lent : Lent s words ls) (Γ : Conte
   unfolding rows build childAt check arity
   two-fault applies l (and-then p (and-then q none-left)) = told-rule s i _ (told-both (told p) (told q)) l
   two-fault operates l (and-then p (and-then q none-left)) = told-rule s i _ (told-both (told p) (told q)) l
-  two-fault applies-late l st = late-two-fault l st
-  two-fault operates-late l st = late-two-fault l st
+  two-fault applies-dynamic l st = late-two-fault l st
+  two-fault operates-dynamic l st = late-two-fault l st
 
   pub three-fault :
       {k e f g : ℕ} {ts : Terms} → ThreeChildren k → lowest e (lowest f g) < 1048576 → Stand s Γ (e ∷ f ∷ g ∷ []) ts →
@@ -135,7 +135,7 @@ module _ {s : Script} {words ls : List ℕ} (lent : Lent s words ls) (Γ : Conte
   unfolding rows build childAt check checkAll
   three-fault chooses l (and-then p (and-then q (and-then r none-left))) =
       told-rule s i _ (told-both (told p) (told-both (told q) (told r))) l
-  three-fault chooses-late l (and-then p (and-then q (and-then r none-left))) =
+  three-fault chooses-dynamic l (and-then p (and-then q (and-then r none-left))) =
       told-rule s i _ (told-gather (told-both (told p) (told-gather (told-both (told q) (told-gather (told-alone (told r) _)))))) l
 
   -- else the rule on the types
@@ -159,14 +159,14 @@ module _ {s : Script} {words ls : List ℕ} (lent : Lent s words ls) (Γ : Conte
   unfolding rows build childAt check rule
   fix-type {e} l (and-then p none-left) = rw (typed-answer p l) (fix-stands lent i h (e % 65536) (p .known l))
 
-  pub late-one-type :
+  pub dynamic-one-type :
       {k e : ℕ} {ts : Terms} → OneChild k → (k ≡ 2 → ⊥) → (k ≡ 5 → ⊥) → 1048576 ≤ e → Stand s Γ (e ∷ []) ts →
       Stands s (givenBy (eqb (e % 65536) 1) 1 i) (over k ts)
   unfolding rows build childAt check checkAll arity both gather rule typeCount
-  late-one-type lifts a b l st = absurd (a refl)
-  late-one-type fixes a b l st = absurd (b refl)
-  late-one-type {e} fixes-late a b l (and-then p none-left) =
-      rw (typed-answer p l, late-one s (ok lent i h) (e % 65536) (p .known l))
+  dynamic-one-type lifts a b l st = absurd (a refl)
+  dynamic-one-type fixes a b l st = absurd (b refl)
+  dynamic-one-type {e} fixes-dynamic a b l (and-then p none-left) =
+      rw (typed-answer p l, dynamic-one s (ok lent i h) (e % 65536) (p .known l))
       (given-stands s (ok lent i h) _ 1 i (small lent i h) (λ _. omega arith))
 
   pub apply-type :
@@ -191,17 +191,17 @@ module _ {s : Script} {words ls : List ℕ} (lent : Lent s words ls) (Γ : Conte
       Stands s (givenBy (eqb (e % 65536) 1 && eqb (f % 65536) 1) 1 i) (rule i (dynRule 2) (checkAll s Γ ts))
   unfolding checkAll both gather rule typeCount
   late-two-types {e} {f} l m (and-then p (and-then q none-left)) =
-      rw (typed-answer p l, typed-answer q m, late-two s (ok lent i h) (e % 65536) (f % 65536) (p .known l) (q .known m))
+      rw (typed-answer p l, typed-answer q m, dynamic-two s (ok lent i h) (e % 65536) (f % 65536) (p .known l) (q .known m))
       (given-stands s (ok lent i h) _ 1 i (small lent i h) (λ _. omega arith))
 
-  pub late-two-type :
+  pub dynamic-two-type :
       {k e f : ℕ} {ts : Terms} → TwoChildren k → (k ≡ 4 → ⊥) → (k ≡ 7 → ⊥) → 1048576 ≤ e → 1048576 ≤ f →
       Stand s Γ (e ∷ f ∷ []) ts → Stands s (givenBy (eqb (e % 65536) 1 && eqb (f % 65536) 1) 1 i) (over k ts)
   unfolding rows build check arity
-  late-two-type applies a b l m st = absurd (a refl)
-  late-two-type operates a b l m st = absurd (b refl)
-  late-two-type applies-late a b l m st = late-two-types l m st
-  late-two-type operates-late a b l m st = late-two-types l m st
+  dynamic-two-type applies a b l m st = absurd (a refl)
+  dynamic-two-type operates a b l m st = absurd (b refl)
+  dynamic-two-type applies-dynamic a b l m st = late-two-types l m st
+  dynamic-two-type operates-dynamic a b l m st = late-two-types l m st
 
   pub if-type :
       {e f g : ℕ} {ts : Terms} → 1048576 ≤ e → 1048576 ≤ f → 1048576 ≤ g → Stand s Γ (e ∷ f ∷ g ∷ []) ts →
@@ -211,14 +211,14 @@ module _ {s : Script} {words ls : List ℕ} (lent : Lent s words ls) (Γ : Conte
       rw (typed-answer p l, typed-answer q m, typed-answer r n, if-numbers s (ok lent i h) (e % 65536) (f % 65536) (g % 65536) (p .known l) (q .known m) (r .known n))
       (given-stands s (ok lent i h) _ (f % 65536) i (small lent i h) (λ _. q .known m))
 
-  pub late-three-type :
+  pub dynamic-three-type :
       {k e f g : ℕ} {ts : Terms} → ThreeChildren k → (k ≡ 6 → ⊥) → 1048576 ≤ e → 1048576 ≤ f → 1048576 ≤ g →
       Stand s Γ (e ∷ f ∷ g ∷ []) ts →
       Stands s (givenBy (eqb (e % 65536) 1 && (eqb (f % 65536) 1 && eqb (g % 65536) 1)) 1 i) (over k ts)
   unfolding rows build childAt check checkAll arity both gather rule typeCount
-  late-three-type chooses a l m n st = absurd (a refl)
-  late-three-type {e} {f} {g} chooses-late a l m n (and-then p (and-then q (and-then r none-left))) =
-      rw (typed-answer p l, typed-answer q m, typed-answer r n, late-three s (ok lent i h) (e % 65536) (f % 65536) (g % 65536) (p .known l) (q .known m) (r .known n))
+  dynamic-three-type chooses a l m n st = absurd (a refl)
+  dynamic-three-type {e} {f} {g} chooses-dynamic a l m n (and-then p (and-then q (and-then r none-left))) =
+      rw (typed-answer p l, typed-answer q m, typed-answer r n, dynamic-three s (ok lent i h) (e % 65536) (f % 65536) (g % 65536) (p .known l) (q .known m) (r .known n))
       (given-stands s (ok lent i h) _ 1 i (small lent i h) (λ _. omega arith))
 
 -- ---- a binder over its body
@@ -227,8 +227,8 @@ pub body-fault : {ls : List ℕ} {k p i e : ℕ} → e < 1048576 → BinderRuled
 unfolding check
 body-fault {i} l =
     record {
-      early = λ words s Γ y t a lent h b st. told-rule s i _ (told st) l;
-      late = λ words s Γ y t a lent h b st. told-rule s i _ (rw (b, type-one s) at (told st)) l;
+      of-static = λ words s Γ y t a lent h b st. told-rule s i _ (told st) l;
+      of-dynamic = λ words s Γ y t a lent h b st. told-rule s i _ (rw (b, type-one s) at (told st)) l;
     }
 
 pub function-type-ruled :
@@ -237,18 +237,18 @@ pub function-type-ruled :
 unfolding check rule
 function-type-ruled {p} {i} {e} a l g =
     record {
-      early = λ words s Γ y t _ lent h b st.
+      of-static = λ words s Γ y t _ lent h b st.
           rw (typed-answer st l) (function-stands lent i h {t = p} {u = e % 65536} (g (lent .types .room)) b (st .known l));
-      late = λ words s Γ y t c lent h b st. let z : ⊥ = omega arith in absurd z;
+      of-dynamic = λ words s Γ y t c lent h b st. let z : ⊥ = omega arith in absurd z;
     }
 
-pub late-function-ruled :
+pub dynamic-function-ruled :
     {ls : List ℕ} {k p i e r : ℕ} → (k ≡ 3 → ⊥) → 1048576 ≤ e → r ≡ givenBy (eqb (e % 65536) 1) 1 i → BinderRuled ls k p i e r
 unfolding check rule typeCount
-late-function-ruled {i} {e} a l g =
+dynamic-function-ruled {i} {e} a l g =
     record {
-      early = λ words s Γ y t c lent h b st. absurd (a c);
-      late = λ words s Γ y t c lent h b st.
-          rw (← type-one s, ← b, typed-answer st l, late-function s (ok lent i h) (e % 65536) (st .known l), g)
+      of-static = λ words s Γ y t c lent h b st. absurd (a c);
+      of-dynamic = λ words s Γ y t c lent h b st.
+          rw (← type-one s, ← b, typed-answer st l, dynamic-function s (ok lent i h) (e % 65536) (st .known l), g)
           (given-stands s (ok lent i h) _ 1 i (small lent i h) (λ _. omega arith));
     }

@@ -228,9 +228,9 @@ module _ (s : Script) (ok : Sound s) where
   unfolding typeCount
   same-early t h = rw (← type-zero s) (same-number t 0 h (omega arith))
 
-  same-late : (t : ℕ) → t < typeCount s → sameType (typeOf s t) D ≡ eqb t 1
+  same-dynamic : (t : ℕ) → t < typeCount s → sameType (typeOf s t) D ≡ eqb t 1
   unfolding typeCount
-  same-late t h = rw (← type-one s) (same-number t 1 h (omega arith))
+  same-dynamic t h = rw (← type-one s) (same-number t 1 h (omega arith))
 
   -- (Lift), (If) and (Op) on numbers
   pub lift-numbers : (t : ℕ) → t < typeCount s → liftRule (typeOf s t) ≡ provided (eqb t 0) (typeOf s 1)
@@ -250,22 +250,22 @@ module _ (s : Script) (ok : Sound s) where
   op-numbers t u h k = rw (same-early t h, same-early u k, type-zero s)
 
   -- the late kinds' rules on numbers
-  pub late-one : (t : ℕ) → t < typeCount s → dynRule 1 (typeOf s t ∷ []) ≡ provided (eqb t 1) (typeOf s 1)
+  pub dynamic-one : (t : ℕ) → t < typeCount s → dynRule 1 (typeOf s t ∷ []) ≡ provided (eqb t 1) (typeOf s 1)
   unfolding dynRule allDynamic
-  late-one t h = rw (same-late t h, and-true (eqb t 1), type-one s)
+  dynamic-one t h = rw (same-dynamic t h, and-true (eqb t 1), type-one s)
 
-  pub late-two :
+  pub dynamic-two :
       (t u : ℕ) → t < typeCount s → u < typeCount s →
       dynRule 2 (typeOf s t ∷ typeOf s u ∷ []) ≡ provided (eqb t 1 && eqb u 1) (typeOf s 1)
   unfolding dynRule allDynamic
-  late-two t u h k = rw (same-late t h, same-late u k, and-true (eqb u 1), type-one s)
+  dynamic-two t u h k = rw (same-dynamic t h, same-dynamic u k, and-true (eqb u 1), type-one s)
 
-  pub late-three :
+  pub dynamic-three :
       (t u v : ℕ) → t < typeCount s → u < typeCount s → v < typeCount s →
       dynRule 3 (typeOf s t ∷ typeOf s u ∷ typeOf s v ∷ []) ≡ provided (eqb t 1 && (eqb u 1 && eqb v 1)) (typeOf s 1)
   unfolding dynRule allDynamic
-  late-three t u v h k l = rw (same-late t h, same-late u k, same-late v l, and-true (eqb v 1), type-one s)
+  dynamic-three t u v h k l = rw (same-dynamic t h, same-dynamic u k, same-dynamic v l, and-true (eqb v 1), type-one s)
 
-  pub late-function : (t : ℕ) → t < typeCount s → abstrDynRule (typeOf s t) ≡ provided (eqb t 1) (typeOf s 1)
+  pub dynamic-function : (t : ℕ) → t < typeCount s → abstrDynRule (typeOf s t) ≡ provided (eqb t 1) (typeOf s 1)
   unfolding abstrDynRule
-  late-function t h = rw (same-late t h, type-one s)
+  dynamic-function t h = rw (same-dynamic t h, type-one s)

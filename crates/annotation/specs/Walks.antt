@@ -89,21 +89,21 @@ pub record ChildAnswers (words types before after : List ℕ) (d i m r : ℕ) : 
 pub data OneChild : ℕ → Type 0 where
   lifts : OneChild 2
   fixes : OneChild 5
-  fixes-late : OneChild 10
+  fixes-dynamic : OneChild 10
 
 pub data TwoChildren : ℕ → Type 0 where
   applies : TwoChildren 4
   operates : TwoChildren 7
-  applies-late : TwoChildren 9
-  operates-late : TwoChildren 12
+  applies-dynamic : TwoChildren 9
+  operates-dynamic : TwoChildren 12
 
 pub data ThreeChildren : ℕ → Type 0 where
   chooses : ThreeChildren 6
-  chooses-late : ThreeChildren 11
+  chooses-dynamic : ThreeChildren 11
 
 pub data BindsName : ℕ → Type 0 where
   abstracts : BindsName 3
-  abstracts-late : BindsName 8
+  abstracts-dynamic : BindsName 8
 
 -- the word of node i, whose kind is one of those
 pub record WordOf (words : List ℕ) (i w : ℕ) (Kinds : ℕ → Type 0) : Type 0 where
@@ -124,10 +124,10 @@ pub record Ruled (types : List ℕ) (k i : ℕ) (es : List ℕ) (r : ℕ) : Type
 
 -- the same of a binder whose parameter has the type p, and whose body has the answer e
 pub record BinderRuled (types : List ℕ) (k p i e r : ℕ) : Type 0 where
-  pub early :
+  pub of-static :
       (words : List ℕ) (s : Script) (Γ : Context) (y : ℕ) (t : Term) → k ≡ 3 → Lent s words types → i < nodeCount s → p < typeCount s →
       Stands s e (check s (bind y (typeOf s p) Γ) t) → Stands s r (check s Γ (lam i y p t))
-  pub late :
+  pub of-dynamic :
       (words : List ℕ) (s : Script) (Γ : Context) (y : ℕ) (t : Term) → k ≡ 8 → Lent s words types → i < nodeCount s → p ≡ 1 →
       Stands s e (check s (bind y (typeOf s p) Γ) t) → Stands s r (check s Γ (dlam i y t))
 

@@ -115,8 +115,8 @@ fn static_right(
     }
 }
 
-// A late node, likewise.
-fn late_right(
+// A dynamic node, likewise.
+fn dynamic_right(
     types: usize,
     inputs: usize,
     node: usize,
@@ -156,7 +156,7 @@ fn node_right(
         0 => fields_right(types, inputs, node, row_of(0), a, b, c),
         1 => step_right(types, inputs, node, row_of(1), a, b, c, value),
         2..=7 => static_right(types, inputs, node, kind, a, b, c, value),
-        8..=12 => late_right(types, inputs, node, kind, a, b, c, value),
+        8..=12 => dynamic_right(types, inputs, node, kind, a, b, c, value),
         _ => false,
     }
 }

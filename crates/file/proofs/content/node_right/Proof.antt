@@ -16,7 +16,7 @@ returns-3 : tie.Need-returns-3
 returns-3 c = c .static-right .ensures ∙ held-value _ _ _ _ _ _ _ (c .before .before .before .fits .value)
 
 returns-4 : tie.Need-returns-4
-returns-4 c = c .late-right .ensures ∙ held-value _ _ _ _ _ _ _ (c .before .before .before .before .fits .value)
+returns-4 c = c .dynamic-right .ensures ∙ held-value _ _ _ _ _ _ _ (c .before .before .before .before .fits .value)
 
 returns-5 : tie.Need-returns-5
 returns-5 c = wrong-kind _ _ _ _ _ _ _ _ (c .if2 .left)

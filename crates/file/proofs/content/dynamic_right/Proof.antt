@@ -1,10 +1,10 @@
--- `file::content::late_right` meets its contract: what holds by the named row holds of the kind, which is one of five. Assumes nothing.
+-- `file::content::dynamic_right` meets its contract: what holds by the named row holds of the kind, which is one of five. Assumes nothing.
 use borrow.Author.Needs.{needs}
 use mathlib.Core.Path.{_∙_}
 use native.Mathlib.Omega.{arith}
 use Rattle.file.proofs.ContentLaws.{of-kind}
-use Rattle.file.proofs.content.late_right.Statement.{statement}
-use Rattle.file.proofs.content.late_right.Tie as tie
+use Rattle.file.proofs.content.dynamic_right.Statement.{statement}
+use Rattle.file.proofs.content.dynamic_right.Tie as tie
 
 returns : tie.Need-returns
 returns c = c .step-right .ensures ∙ of-kind _ _ _ _ _ _ _ 8 (omega arith) (omega arith) (c .before .before .match .keys1) (c .before .row-of .ensures) (c .before .before .before .fits .value)
@@ -23,8 +23,8 @@ returns-5 c =
     let o = c .before .before .match .rest in
     c .step-right5 .ensures ∙ of-kind _ _ _ _ _ _ _ 12 (omega arith) (omega arith) (omega (arith, c .before .before .before .pre, o .0 .0 .0 .1, o .0 .0 .1, o .0 .1, o .1)) (c .before .row-of5 .ensures) (c .before .before .before .fits .value)
 
-pub late-right-spec : {M : Type 1} → statement M
-late-right-spec =
+pub dynamic-right-spec : {M : Type 1} → statement M
+dynamic-right-spec =
     tie.close
     (tie.spec
     (λ c κs. search needs)
