@@ -11,6 +11,6 @@ decimal-spec =
     (λ c. widens (c .before .fits .z))
     (λ c. negation-stays (c .before .fits .z))
     (λ c. signed (c .before .fits .z) (c .if1 .taken) .0)
-    (λ c. signed (c .before .fits .z) (c .if1 .taken) .1)
+    (λ c. search (signed (c .before .fits .z) (c .if1 .taken)))
     (λ c. unsigned (c .before .fits .z) (c .if1 .left) .0)
-    (λ c. unsigned (c .before .fits .z) (c .if1 .left) .1))
+    (λ c. search (unsigned (c .before .fits .z) (c .if1 .left))))
