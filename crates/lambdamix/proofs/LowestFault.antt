@@ -64,10 +64,10 @@ module _ (s : Script) where
   script-fault f q h = ⊎-elim tree-fault (λ w. absurd (h (w .0))) (refused-cases (checkedRoot s) q)
 
   -- 11 at the root is told exactly when the root has a type other than D.
-  pub root-not-late :
+  pub root-not-dynamic :
       annotationRefusal s ≡ some (rootRefusal s) ↔ ((t : Ty) × (s ∣ inputContext s ⊢ tree s (root s) ∶ t) × (t ≢ D))
   unfolding annotationRefusal checkedRoot
-  root-not-late = (
+  root-not-dynamic = (
     λ q.
         ⊎-elim (λ p. absurd (not-11 (tree-fault p .fault) refl)) (λ w. (w .1, sound (w .2), w .3))
         (refused-cases (checkedRoot s) q),

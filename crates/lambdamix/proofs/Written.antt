@@ -18,7 +18,7 @@ use Rattle.lambdamix.specs.Types.{D}
 use Rattle.lambdamix.specs.Typing.{Context, bind, typeAtBy, typeAt, inputTypeBy, inputType, contextFrom, inputContext, _∣_⊢_∶_, Const, Var, Lift, Abstr-dyn, Dyn, AllDynamic, nil-dyn, cons-dyn}
 use Rattle.lambdamix.specs.Code.{Code, Codes, lit, ref, fn, form, nilC, consC, size, codeHeight, fits, top, written}
 use Rattle.lambdamix.specs.Structure.{orElse, member, structureRefusal}
-use Rattle.lambdamix.specs.Demand.{LateInput}
+use Rattle.lambdamix.specs.Demand.{DynamicInput}
 use Rattle.lambdamix.proofs.Tests.{and-both}
 use Rattle.lambdamix.proofs.Structure.{typed-scope}
 use Rattle.lambdamix.proofs.WrittenTree.{writtenTerm, writtenTerms, WellFormed, formed-lit, formed-ref, formed-fn, formed-form, AllWellFormed, formed-nil, formed-cons, written-tree}
@@ -30,7 +30,7 @@ use Rattle.lambdamix.proofs.WrittenHeight.{written-height}
 mutual
   pub data Closed (s : Script) : List ℕ → Code → Type 0 where
     closed-lit : {xs : List ℕ} {z : ℤ} → Closed s xs (lit z)
-    closed-ref : {xs : List ℕ} {x : ℕ} → LateInput s x ⊎ (member x xs ≡ true) → Closed s xs (ref x)
+    closed-ref : {xs : List ℕ} {x : ℕ} → DynamicInput s x ⊎ (member x xs ≡ true) → Closed s xs (ref x)
     closed-fn : {xs : List ℕ} {x : ℕ} {c : Code} → Closed s (x ∷ xs) c → Closed s xs (fn x c)
     closed-form :
         {xs : List ℕ} {f : Former} {cs : Codes} {n : ℕ} → arity f ≡ n → AllClosed s xs cs n → Closed s xs (form f cs)
@@ -61,9 +61,9 @@ input-typed k [] j x e l = absurd (omega arith)
 input-typed k (t ∷ ts) zero x e l = rw (eq-eqb k x (omega arith))
 input-typed k (t ∷ ts) (suc j) x e l = rw (ne-eqb k x (omega arith)) (input-typed (suc k) ts j x (omega arith) (omega arith))
 
-late-typed : (s : Script) (x : ℕ) → LateInput s x → typeAt (inputContext s) x ≡ some D
+dynamic-typed : (s : Script) (x : ℕ) → DynamicInput s x → typeAt (inputContext s) x ≡ some D
 unfolding inputContext inputCount inputType inputTypeBy
-late-typed s x l = input-typed 0 (s .inputs) x x (omega arith) (l .input) ∙ rw (l .late)
+dynamic-typed s x l = input-typed 0 (s .inputs) x x (omega arith) (l .input) ∙ rw (l .dynamic)
 
 -- a context with these names in front, as dynamic ones
 unfoldable pub opened : List ℕ → Context → Context
@@ -92,7 +92,7 @@ mutual
       w ∣ opened xs (inputContext s) ⊢ writtenTerm k c ∶ D
   closed-dynamic w k closed-lit = Lift Const
   closed-dynamic {s} {xs} w k (closed-ref {x} h) =
-      Var (opened-typed xs (inputContext s) x (⊎-map (late-typed s x) (λ m. m) h))
+      Var (opened-typed xs (inputContext s) x (⊎-map (dynamic-typed s x) (λ m. m) h))
   closed-dynamic w k (closed-fn d) = Abstr-dyn (closed-dynamic w k d)
   closed-dynamic w k (closed-form e ds) = Dyn e (all-closed-dynamic w k ds)
 
