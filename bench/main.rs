@@ -127,8 +127,7 @@ impl Case {
         assert_eq!(check, self.check_by_passes(), "{}", self.input.name);
         self.out.fill(0);
         let library = self.make_library();
-        let zeros = self.stores.cells.iter().all(|&x| x == 0)
-            && self.stores.words.iter().chain(&self.stores.codes).all(|&x| x == 0);
+        let zeros = self.stores.heap.iter().chain(&self.stores.codes).all(|&x| x == 0);
         assert!(zeros, "stores hold zeros");
         let file = std::mem::replace(&mut self.out, vec![0; scriptmaker::MAX_FILE]);
         assert_eq!(library, self.make_tuned(), "{}", self.input.name);

@@ -21,7 +21,7 @@ enum {
     SCRIPTMAKER_INPUTS = 16,
     SCRIPTMAKER_NODES = 4096,
     SCRIPTMAKER_FUEL = 16000,
-    SCRIPTMAKER_HEAP = SCRIPTMAKER_FUEL + 16,     /* places of cells and words for the greatest fuel */
+    SCRIPTMAKER_HEAP = SCRIPTMAKER_FUEL + 16,     /* places of the heap for the greatest fuel */
     SCRIPTMAKER_CODES = 2 * SCRIPTMAKER_FUEL + 16, /* places of codes for the greatest fuel */
     SCRIPTMAKER_FILE = 8 + 6 * 64 + 4 * 16 + 13 * 4096, /* bytes of the longest script file */
     SCRIPTMAKER_LISTING = 65536, /* no listing is longer */
@@ -82,16 +82,14 @@ struct scriptmaker_check_reply scriptmaker_check(struct scriptmaker_counts count
  * before a run and hold zeros after it. */
 struct scriptmaker_make_reply scriptmaker_make(struct scriptmaker_counts counts, SCRIPTMAKER_COLUMNS(const),
                                                const int32_t *settings, size_t settings_length, uint32_t fuel,
-                                               uint32_t *cells, size_t cells_length, uint64_t *words,
-                                               size_t words_length, uint64_t *codes, size_t codes_length, uint8_t *out,
-                                               size_t out_length);
+                                               uint64_t *heap, size_t heap_length, uint64_t *codes,
+                                               size_t codes_length, uint8_t *out, size_t out_length);
 
 /* The same without refusals 9 to 11: bad marks are met as stop 27. */
 struct scriptmaker_make_reply scriptmaker_bare_run(struct scriptmaker_counts counts, SCRIPTMAKER_COLUMNS(const),
                                                    const int32_t *settings, size_t settings_length, uint32_t fuel,
-                                                   uint32_t *cells, size_t cells_length, uint64_t *words,
-                                                   size_t words_length, uint64_t *codes, size_t codes_length,
-                                                   uint8_t *out, size_t out_length);
+                                                   uint64_t *heap, size_t heap_length, uint64_t *codes,
+                                                   size_t codes_length, uint8_t *out, size_t out_length);
 
 #ifdef __cplusplus
 }
@@ -107,8 +105,7 @@ struct scriptmaker_script {
 };
 
 struct scriptmaker_stores {
-    uint32_t cells[SCRIPTMAKER_HEAP];
-    uint64_t words[SCRIPTMAKER_HEAP], codes[SCRIPTMAKER_CODES];
+    uint64_t heap[SCRIPTMAKER_HEAP], codes[SCRIPTMAKER_CODES];
 };
 
 /* The columns of such a script as arguments. */
@@ -118,7 +115,6 @@ struct scriptmaker_stores {
         SCRIPTMAKER_NODES, (s)->values, SCRIPTMAKER_NODES
 
 /* The stores as arguments. */
-#define SCRIPTMAKER_IN(m) \
-    (m)->cells, SCRIPTMAKER_HEAP, (m)->words, SCRIPTMAKER_HEAP, (m)->codes, SCRIPTMAKER_CODES
+#define SCRIPTMAKER_IN(m) (m)->heap, SCRIPTMAKER_HEAP, (m)->codes, SCRIPTMAKER_CODES
 
 #endif

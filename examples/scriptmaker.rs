@@ -169,9 +169,7 @@ unsafe extern "C" {
         settings: *const i32,
         _: usize,
         fuel: u32,
-        cells: *mut u32,
-        _: usize,
-        words: *mut u64,
+        heap: *mut u64,
         _: usize,
         codes: *mut u64,
         _: usize,
@@ -199,9 +197,7 @@ unsafe extern "C" {
         settings: *const i32,
         _: usize,
         fuel: u32,
-        cells: *mut u32,
-        _: usize,
-        words: *mut u64,
+        heap: *mut u64,
         _: usize,
         codes: *mut u64,
         _: usize,
@@ -232,8 +228,6 @@ type Run = unsafe extern "C" fn(
     *const i32,
     usize,
     u32,
-    *mut u32,
-    usize,
     *mut u64,
     usize,
     *mut u64,
@@ -258,8 +252,7 @@ pub struct Script {
 
 /// The stores of a run.
 pub struct Stores {
-    pub cells: Vec<u32>,
-    pub words: Vec<u64>,
+    pub heap: Vec<u64>,
     pub codes: Vec<u64>,
 }
 
@@ -267,7 +260,7 @@ impl Stores {
     /// Stores that suffice for runs with up to this fuel.
     pub fn new(fuel: u32) -> Stores {
         let places = fuel as usize + MAX_INPUTS;
-        Stores { cells: vec![0; places], words: vec![0; places], codes: vec![0; places + fuel as usize] }
+        Stores { heap: vec![0; places], codes: vec![0; places + fuel as usize] }
     }
 }
 
@@ -436,10 +429,8 @@ impl Script {
                 settings.as_ptr(),
                 settings.len(),
                 fuel,
-                stores.cells.as_mut_ptr(),
-                stores.cells.len(),
-                stores.words.as_mut_ptr(),
-                stores.words.len(),
+                stores.heap.as_mut_ptr(),
+                stores.heap.len(),
                 stores.codes.as_mut_ptr(),
                 stores.codes.len(),
                 out.as_mut_ptr(),

@@ -1,5 +1,6 @@
 // The types of a script's nodes, found by recursion on falling node numbers: refusals 9, 10 and 11. The recursion passes on plain
-// numbers and references to arrays, and its answer is one number: anything else, a tuple struct too, would go through memory.
+// numbers, references to arrays and a reference to a slice reference, and its answer is one number: anything else, a tuple struct
+// or a slice reference itself too, would go through memory.
 use script::Counts;
 use script::Name;
 use script::NodeNumber;
@@ -9,7 +10,6 @@ use script::Verdict;
 use script::column::at16;
 use script::limits::MAX_HEIGHT;
 use script::limits::MAX_INPUTS;
-use script::limits::MAX_NODES;
 use script::limits::MAX_TYPES;
 use script::word::field_a;
 use script::word::field_b;
@@ -265,15 +265,15 @@ fn put(s: &mut [u32], i: usize, w: u32)
 
 // The type of node i, under the first binders of the stack.
 fn node(
-    nodes: &[u64; MAX_NODES],
+    nodes: &&[u64],
     types: &[u32; MAX_TYPES],
     stack: &mut [u32; PLACES],
     depth: usize,
     i: u16,
 ) -> u32
-    ensures { λ r. ⌜ Answers (now (nodes .entry)) (now (types .entry)) (now (stack .entry)) (now (stack .exit)) depth i r ⌝ }
+    ensures { λ r. ⌜ Answers (now (now (nodes .entry))) (now (types .entry)) (now (stack .entry)) (now (stack .exit)) depth i r ⌝ }
 {
-    let w = word_at(nodes, i);
+    let w = word_at(*nodes, i);
     match kind(w) {
         1 => variable(stack, depth, NodeNumber(i), Name(field_a(w))),
         2 | 5 | 10 => one(nodes, types, stack, depth, i, w),
@@ -286,14 +286,14 @@ fn node(
 
 // A child's number is smaller than its parent's.
 fn child(
-    nodes: &[u64; MAX_NODES],
+    nodes: &&[u64],
     types: &[u32; MAX_TYPES],
     stack: &mut [u32; PLACES],
     depth: usize,
     i: u16,
     m: u16,
 ) -> u32
-    ensures { λ r. ⌜ ChildAnswers (now (nodes .entry)) (now (types .entry)) (now (stack .entry)) (now (stack .exit)) depth i m r ⌝ }
+    ensures { λ r. ⌜ ChildAnswers (now (now (nodes .entry))) (now (types .entry)) (now (stack .entry)) (now (stack .exit)) depth i m r ⌝ }
 {
     if m < i {
         return node(nodes, types, stack, depth, m);
@@ -302,30 +302,30 @@ fn child(
 }
 
 fn one(
-    nodes: &[u64; MAX_NODES],
+    nodes: &&[u64],
     types: &[u32; MAX_TYPES],
     stack: &mut [u32; PLACES],
     depth: usize,
     i: u16,
     w: u64,
 ) -> u32
-    requires { ⌜ WordOf (now nodes) i w OneChild ⌝ }
-    ensures { λ r. ⌜ Answers (now (nodes .entry)) (now (types .entry)) (now (stack .entry)) (now (stack .exit)) depth i r ⌝ }
+    requires { ⌜ WordOf (now (now nodes)) i w OneChild ⌝ }
+    ensures { λ r. ⌜ Answers (now (now (nodes .entry))) (now (types .entry)) (now (stack .entry)) (now (stack .exit)) depth i r ⌝ }
 {
     let e = child(nodes, types, stack, depth, i, field_a(w));
     one_rule(types, kind(w), NodeNumber(i), e)
 }
 
 fn two(
-    nodes: &[u64; MAX_NODES],
+    nodes: &&[u64],
     types: &[u32; MAX_TYPES],
     stack: &mut [u32; PLACES],
     depth: usize,
     i: u16,
     w: u64,
 ) -> u32
-    requires { ⌜ WordOf (now nodes) i w TwoChildren ⌝ }
-    ensures { λ r. ⌜ Answers (now (nodes .entry)) (now (types .entry)) (now (stack .entry)) (now (stack .exit)) depth i r ⌝ }
+    requires { ⌜ WordOf (now (now nodes)) i w TwoChildren ⌝ }
+    ensures { λ r. ⌜ Answers (now (now (nodes .entry))) (now (types .entry)) (now (stack .entry)) (now (stack .exit)) depth i r ⌝ }
 {
     let e = child(nodes, types, stack, depth, i, field_a(w));
     let f = child(nodes, types, stack, depth, i, field_b(w));
@@ -333,15 +333,15 @@ fn two(
 }
 
 fn three(
-    nodes: &[u64; MAX_NODES],
+    nodes: &&[u64],
     types: &[u32; MAX_TYPES],
     stack: &mut [u32; PLACES],
     depth: usize,
     i: u16,
     w: u64,
 ) -> u32
-    requires { ⌜ WordOf (now nodes) i w ThreeChildren ⌝ }
-    ensures { λ r. ⌜ Answers (now (nodes .entry)) (now (types .entry)) (now (stack .entry)) (now (stack .exit)) depth i r ⌝ }
+    requires { ⌜ WordOf (now (now nodes)) i w ThreeChildren ⌝ }
+    ensures { λ r. ⌜ Answers (now (now (nodes .entry))) (now (types .entry)) (now (stack .entry)) (now (stack .exit)) depth i r ⌝ }
 {
     let a = field_a(w);
     let b = field_b(w);
@@ -353,15 +353,15 @@ fn three(
 }
 
 fn binder(
-    nodes: &[u64; MAX_NODES],
+    nodes: &&[u64],
     types: &[u32; MAX_TYPES],
     stack: &mut [u32; PLACES],
     depth: usize,
     i: u16,
     w: u64,
 ) -> u32
-    requires { ⌜ WordOf (now nodes) i w BindsName ⌝ }
-    ensures { λ r. ⌜ Answers (now (nodes .entry)) (now (types .entry)) (now (stack .entry)) (now (stack .exit)) depth i r ⌝ }
+    requires { ⌜ WordOf (now (now nodes)) i w BindsName ⌝ }
+    ensures { λ r. ⌜ Answers (now (now (nodes .entry))) (now (types .entry)) (now (stack .entry)) (now (stack .exit)) depth i r ⌝ }
 {
     let p = parameter(w);
     let inner = push(stack, depth, pair(field_a(w), p.0));
@@ -430,7 +430,7 @@ pub fn annotation_refusal(
     parameters: &[u16],
     results: &[u16],
     inputs: &[u16],
-    nodes: &[u64; MAX_NODES],
+    nodes: &[u64],
 ) -> Verdict
     ensures { λ r. ⌜ Annotated n (now (parameters .entry)) (now (results .entry)) (now (inputs .entry)) (now (nodes .entry)) r ⌝ }
 {
@@ -440,5 +440,5 @@ pub fn annotation_refusal(
     bind_inputs(inputs, n.inputs, &mut stack);
     let root = last(n.nodes);
     let depth = n.inputs as usize;
-    verdict(root, node(nodes, &types, &mut stack, depth, root.0))
+    verdict(root, node(&nodes, &types, &mut stack, depth, root.0))
 }

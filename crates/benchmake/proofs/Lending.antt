@@ -26,8 +26,7 @@ record Lent (x : Tables) (zs : List ℤ) (m : Stores) (file out : List ℕ) : Ty
   c : length (x .c) ≡ 4096
   values : length (x .values) ≡ 4096
   settings : length zs ≡ 17
-  cells : length (m .cells) ≡ 4016
-  words : length (m .words) ≡ 4016
+  heap : length (m .heap) ≡ 4016
   codes : length (m .codes) ≡ 8016
   made : length file ≡ 65536
   text : 65536 ≤ length out
@@ -45,8 +44,7 @@ lent-suffices {out} l =
       l .c,
       l .values,
       l .settings,
-      l .cells,
-      l .words,
+      l .heap,
       l .codes,
       l .made,
       le-leb 65536 (length out) (l .text),
@@ -56,10 +54,10 @@ module _ {input : List ℕ} {x y : Tables} {zs ws : List ℤ} {m n : Stores} {fi
     (s : Responds input x y zs ws m n file made out printed r)
     (ps : length (x .parameters) ≡ 64) (rs : length (x .results) ≡ 64) (is : length (x .inputs) ≡ 16)
     (ks : length (x .kinds) ≡ 4096) (xs : length (x .a) ≡ 4096) (ys : length (x .b) ≡ 4096) (cs : length (x .c) ≡ 4096) (vs : length (x .values) ≡ 4096)
-    (us : length zs ≡ 17) (cells : length (m .cells) ≡ 4016) (words : length (m .words) ≡ 4016) (codes : length (m .codes) ≡ 8016)
+    (us : length zs ≡ 17) (heap : length (m .heap) ≡ 4016) (codes : length (m .codes) ≡ 8016)
     (bytes : length file ≡ 65536) (text : 65536 ≤ length out) where
   room : roomy x zs m file out ≡ true
-  room = lent-suffices (record { parameters = ps; results = rs; inputs = is; kinds = ks; a = xs; b = ys; c = cs; values = vs; settings = us; cells = cells; words = words; codes = codes; made = bytes; text = text })
+  room = lent-suffices (record { parameters = ps; results = rs; inputs = is; kinds = ks; a = xs; b = ys; c = cs; values = vs; settings = us; heap = heap; codes = codes; made = bytes; text = text })
 
   pub whole-answer : {k : ℕ} → r ≡ Printed k → Writes (response input) out printed k
   unfolding responded respondedOutput

@@ -4,8 +4,8 @@ use libc::STDIN_FILENO;
 use libc::STDOUT_FILENO;
 use respond::Response;
 use respond::answer::respond;
-use respond::limits::CELLS;
 use respond::limits::CODES;
+use respond::limits::HEAP;
 use respond::limits::MAX_BYTES;
 use respond::limits::SETTINGS;
 use script::limits::MAX_INPUTS;
@@ -30,8 +30,7 @@ fn answer(input: &[u8], out: &mut [u8]) -> usize
     let mut c = [0u16; MAX_NODES];
     let mut values = [0i32; MAX_NODES];
     let mut settings = [0i32; SETTINGS];
-    let mut cells = [0u32; CELLS];
-    let mut words = [0u64; CELLS];
+    let mut heap = [0u64; HEAP];
     let mut codes = [0u64; CODES];
     let mut file = [0u8; MAX_BYTES];
     match respond(
@@ -45,8 +44,7 @@ fn answer(input: &[u8], out: &mut [u8]) -> usize
         &mut c,
         &mut values,
         &mut settings,
-        &mut cells,
-        &mut words,
+        &mut heap,
         &mut codes,
         &mut file,
         out,

@@ -1,5 +1,5 @@
 -- The refusals of a file from those of its parts, and the reader's reply and tables. Assumes nothing.
-use Prim.Native.Nat.{ℕ, _≤_}
+use Prim.Native.Nat.{ℕ, min, _≤_}
 use mathlib.Core.Path.{_≡_, refl, sym, ap, _∙_}
 use mathlib.Core.Bool.{Bool, true, false, _&&_, true≢false}
 use mathlib.Core.List.{List}
@@ -21,9 +21,9 @@ use Rattle.script.specs.File.{headTypes, headInputs, headNodes, scriptIn}
 use Rattle.script.specs.Refusals.{headMarked, countsRight, contentOf, contentRefusal, markRefusal, earlier, earlierBy, bodyRefusal, fileRefusal}
 use Rattle.script.specs.Tables.{Tables, rowType, rowInput, rowNode, tablesScript, filled, longEnough, readRefusal, readTables}
 use Rattle.script.specs.Replies.{refusalOf, reading, Reads}
-use Rattle.script.specs.Columns.{tablesOf, nodesIn, contentIn, enough}
-use Rattle.script.specs.Words.{Packs}
+use Rattle.script.specs.Columns.{tablesOf, contentIn, enough}
 use Rattle.file.specs.Heads.{headCounts, headRefusal, recordsRefusal, FillFits, FilledWhere, isPassed, filledIf, replyBy}
+use Rattle.file.specs.PackedTables.{HoldNodes, PackedTables}
 use Rattle.script.specs.Walks.{Structured}
 use Rattle.file.proofs.ContentLaws.{in-limits}
 use Rattle.file.proofs.HeadLaws.{file-by-head}
@@ -56,6 +56,20 @@ own-fits bs {n} x e h p r i k a b c v =
       values = omega (arith, l .nodes);
     }
 
+-- and so do columns of the same lengths
+pub own-holds : (bs : List ℕ) {n : Counts} → n ≡ headCounts bs → countsRight (headTypes bs) (headInputs bs) (headNodes bs) ≡ true
+    → {ks xs ys zs : List ℕ} {vs : List ℤ}
+    → length ks ≡ 4096 → length xs ≡ 4096 → length ys ≡ 4096 → length zs ≡ 4096 → length vs ≡ 4096 → HoldNodes (n .nodes) ks xs ys zs vs
+own-holds bs {n} e h k a b c v =
+    let l = in-limits (n .types) (n .inputs) (n .nodes) (counts-here bs e h) in
+    record {
+      kinds = omega (arith, l .nodes);
+      a = omega (arith, l .nodes);
+      b = omega (arith, l .nodes);
+      c = omega (arith, l .nodes);
+      values = omega (arith, l .nodes);
+    }
+
 -- ---- the body
 
 right-content : (t i n : ℕ) (x : Tables) → countsRight t i n ≡ true → contentIn t i n x ≡ contentOf t i n (rowType x) (rowInput x) (rowNode x)
@@ -72,6 +86,11 @@ earlier-none (some e) (some f) h = by (leb (e .place) (f .place)) h
     by true k = let z : _≡_ {A = ℕ} 0 1 = cc in let w : ⊥ = omega arith in absurd w
     by false k = k
 
+passed-none : (v : Verdict) → refusalOf v ≡ none → v ≡ Verdict.Passed
+unfolding refusalOf
+passed-none Verdict.Passed e = refl
+passed-none (Verdict.Refused f) e = let z : _≡_ {A = ℕ} 0 1 = cc in absurd (omega arith)
+
 module _ (bs : List ℕ) (n : Counts) (ps rs is ks xs ys zs : List ℕ) (vs : List ℤ) {m k : Option Checker.Refusal}
     (marks : m ≡ markRefusal bs (n .types) (n .inputs) (n .nodes))
     (content : k ≡ contentIn (n .types) (n .inputs) (n .nodes) (tablesOf ps rs is ks xs ys zs vs))
@@ -82,14 +101,15 @@ module _ (bs : List ℕ) (n : Counts) (ps rs is ks xs ys zs : List ℕ) (vs : Li
   records-refused h = rw (← marks, ← content, ← first, h)
 
   -- and where there is none by their structure.
-  pub records-by-structure : (r : Verdict) → v ≡ Verdict.Passed → {before ws : List ℕ} → maxNodes ≤ length before
-      → Packs (n .nodes) (nodesIn ks xs ys zs vs) before ws → Structured ws (n .inputs) (n .nodes) r
+  pub records-by-structure : (r : Verdict) → v ≡ Verdict.Passed → {w : Verdict} → k ≡ refusalOf w → {before ws : List ℕ}
+      → PackedTables w (n .nodes) (tablesOf ps rs is ks xs ys zs vs) before ws → min (n .nodes) maxNodes ≤ length before
+      → Structured ws (n .inputs) (n .nodes) r
       → refusalOf r ≡ recordsRefusal bs n (tablesOf ps rs is ks xs ys zs vs)
   unfolding recordsRefusal refusalOf orElse
-  records-by-structure r h l p meets =
+  records-by-structure r h {w} told p l meets =
+      let e = earlier-none m k (sym first ∙ ap refusalOf h) in
       rw (← marks, ← content, ← first, h)
-      (structure-after (n .types) (n .inputs) (n .nodes) ps rs is ks xs ys zs vs
-      (sym content ∙ earlier-none m k (sym first ∙ ap refusalOf h)) r l p meets)
+      (structure-after (n .types) (n .inputs) (n .nodes) ps rs is ks xs ys zs vs (sym content ∙ e) r (p .nodes (passed-none w (sym told ∙ e)) l) meets)
 
 -- A file's body is refused as its records are in tables that were filled from it.
 pub body-by-records : (bs : List ℕ) {n : Counts} → n ≡ headCounts bs

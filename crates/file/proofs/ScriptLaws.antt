@@ -1,29 +1,33 @@
 -- The script that tables hold has the tables' rows, so the contents of either are refused alike; and where nothing of the contents
 -- is refused, every node is right. Assumes nothing.
-use Prim.Native.Nat.{ℕ, _<_, _≤_}
+use Prim.Native.Nat.{ℕ, min, _<_, _≤_}
 use mathlib.Core.Path.{_≡_, refl, sym, ap, ap₂, _∙_}
-use mathlib.Core.Bool.{Bool, true, false, not}
+use mathlib.Core.Bool.{Bool, true, false, not, _&&_}
 use mathlib.Core.List.{List}
 use mathlib.Core.Option.{Option, none, some}
 use lib.IntN.{ℤ}
 use lib.ListN.{length}
+use lib.Dec.{leb}
+use borrow.Author.Tests.{leb-true}
 use native.Mathlib.Omega.{arith}
 use Rattle.lambdamix.specs.Script.{FunctionType, Node, blankNode, nodeAt}
 use Rattle.lambdamix.specs.Types.{blankType}
 use Rattle.lambdamix.specs.Limits.{maxNodes}
 use Rattle.lambdamix.specs.Structure.{orElse, structureRefusal, refusedUnless}
 use Rattle.lambdamix.specs.Checker.{Refusal}
-use Rattle.script.specs.File.{nodeOffset}
+use Rattle.lambdamix.proofs.Tests.{and-both}
+use Rattle.script.specs.File.{typeOffset, inputOffset, nodeOffset}
 use Rattle.script.specs.Refusals.{typeFits, inputFits, nodeFits, otherPair, samePair, refusedRecord, countsRight, contentOf, contentRefusal, scriptRefusal}
 use Rattle.script.specs.Tables.{Tables, rowType, rowInput, rowNode, tablesScript}
-use Rattle.script.specs.Columns.{tablesOf, nodesIn, contentIn}
-use Rattle.script.specs.Words.{Packed, Packs}
+use Rattle.script.specs.Columns.{tablesOf, contentIn, enough}
+use Rattle.script.specs.Words.{Packed}
 use Rattle.script.specs.Walks.{Structured}
-use Rattle.script.specs.Replies.{refusalOf}
+use Rattle.script.specs.Replies.{foundAt, refusalOf}
+use Rattle.script.specs.declared.Found.{Found}
 use Rattle.script.specs.declared.Refusal as Refused
 use Rattle.script.specs.declared.Verdict.{Verdict}
 use Rattle.script.specs.declared.Verdict.the-variants as Verdict
-use Rattle.file.specs.PackedTables.{PackedTables}
+use Rattle.file.specs.PackedTables.{HoldNodes, PackedNodes, PackedTables}
 use Rattle.file.proofs.ContentLaws.{in-limits}
 use Rattle.file.proofs.Numbered.{length-numbered, row-at}
 use Rattle.file.proofs.Searching.{failing-same, all-pass}
@@ -115,21 +119,14 @@ module _ (t i n : ℕ) (ps rs is ks xs ys zs : List ℕ) (vs : List ℤ) where
   abbrev columns : Tables
   columns = tablesOf ps rs is ks xs ys zs vs
 
-  -- Contents that pass have no more nodes than there are words.
-  pub packed-after : contentIn t i n columns ≡ none → {before ws : List ℕ} → maxNodes ≤ length before
-      → Packs n (nodesIn ks xs ys zs vs) before ws → Packed n (rowNode columns) ws
-  unfolding maxNodes rowNode
-  packed-after e h p = p .packed (omega (arith, in-limits t i n (content-passes t i n columns e .0) .nodes))
-
   -- After the contents the check of structure gives 6, 7 and 8.
-  pub structure-after : contentIn t i n columns ≡ none → (r : Verdict) {before ws : List ℕ} → maxNodes ≤ length before
-      → Packs n (nodesIn ks xs ys zs vs) before ws → Structured ws i n r
+  pub structure-after : contentIn t i n columns ≡ none → (r : Verdict) {ws : List ℕ} → Packed n (rowNode columns) ws → Structured ws i n r
       → refusalOf r ≡ structureRefusal (tablesScript t i n columns)
   unfolding maxNodes
-  structure-after e r h p m =
+  structure-after e r p m =
       let q = content-passes t i n columns e in
       let l = in-limits t i n (q .0) in
-      m .refusal t columns (l .some-node) (l .nodes) (packed-after e h p)
+      m .refusal t columns (l .some-node) (l .nodes) p
       (nodes-right t i n (rowType columns) (rowInput columns) (rowNode columns) (q .1))
 
   pub refused-by-content : {v : Verdict} {f : Refused.Refusal} → refusalOf v ≡ contentIn t i n columns → v ≡ Verdict.Refused f
@@ -138,18 +135,46 @@ module _ (t i n : ℕ) (ps rs is ks xs ys zs : List ℕ) (vs : List ℤ) where
   refused-by-content {v} {f} p q = rw (script-of-tables t i n columns, ← p, q)
 
   module _ {v : Verdict} (p : refusalOf v ≡ contentIn t i n columns) (q : v ≡ Verdict.Passed) {before ws : List ℕ}
-      (h : maxNodes ≤ length before) (k : Packs n (nodesIn ks xs ys zs vs) before ws) where
+      (k : PackedTables v n columns before ws) (h : min n maxNodes ≤ length before) where
     no-content : contentIn t i n columns ≡ none
     unfolding refusalOf
     no-content = sym p ∙ ap refusalOf q
 
     pub refused-by-structure : (r : Verdict) → Structured ws i n r → refusalOf r ≡ scriptRefusal (tablesScript t i n columns)
     unfolding refusalOf orElse
-    refused-by-structure r m = rw (script-of-tables t i n columns, ← p, q) (structure-after no-content r h k m)
+    refused-by-structure r m = rw (script-of-tables t i n columns, ← p, q) (structure-after no-content r (k .nodes q h) m)
 
-    pub packed-by-pack : (r : Verdict) → PackedTables r n columns before ws
-    packed-by-pack r = record { nodes = λ e l. packed-after no-content h k }
+    pub packed-by-content : (r : Verdict) → PackedTables r n columns before ws
+    packed-by-content r = record { nodes = λ e l. k .nodes q h }
 
 -- a verdict that refuses says nothing of the words
 pub not-packed : {f : Refused.Refusal} {n : ℕ} {x : Tables} {before after : List ℕ} → PackedTables (Verdict.Refused f) n x before after
 not-packed = record { nodes = λ e h. let z : _≡_ {A = ℕ} 0 1 = cc in absurd (omega arith) }
+
+-- contents are packed where their search for a bad node found none
+pub packed-by-search :
+    (t i : ℕ) (p q : Option ℕ) (r : Found) {v : Verdict} {n : ℕ} {x : Tables} {before after : List ℕ}
+    → refusalOf v ≡ orElse (refusedRecord 4 typeOffset p) (orElse (refusedRecord 4 (inputOffset t) q) (refusedRecord 5 (nodeOffset t i) (foundAt r)))
+    → PackedNodes r n (rowNode x) after → PackedTables v n x before after
+unfolding refusalOf
+packed-by-search t i p q r e k =
+    record { nodes = λ h l. k .all (none-found 5 (nodeOffset t i) (foundAt r) (last-none _ _ _ (sym e ∙ ap refusalOf h))) }
+
+-- columns that are long enough hold the nodes
+pub long-holds : (t i n ps rs is : ℕ) {ks xs ys zs : List ℕ} {vs : List ℤ} {b : Bool}
+    → b ≡ enough t i n ps rs is (length ks) (length xs) (length ys) (length zs) (length vs) → b ≡ true → HoldNodes n ks xs ys zs vs
+unfolding enough
+long-holds t i n ps rs is {ks} {xs} {ys} {zs} {vs} e f =
+    let p = and-both (leb t ps && leb t rs) _ (sym e ∙ f) .1 in
+    let q = and-both (leb i is) _ p .1 in
+    let r = and-both (leb n (length ks) && leb n (length xs)) _ q in
+    let u = and-both (leb n (length ks)) (leb n (length xs)) (r .0) in
+    let v = and-both (leb n (length ys)) _ (r .1) in
+    let w = and-both (leb n (length zs)) (leb n (length vs)) (v .1) in
+    record {
+      kinds = leb-true n (length ks) (u .0);
+      a = leb-true n (length xs) (u .1);
+      b = leb-true n (length ys) (v .0);
+      c = leb-true n (length zs) (w .0);
+      values = leb-true n (length vs) (w .1);
+    }

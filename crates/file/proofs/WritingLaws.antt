@@ -1,6 +1,6 @@
 -- Stores in a row: bytes set from a place on, one part after the other, and records one after the other; past the end they
 -- change nothing. Assumes nothing.
-use Prim.Native.Nat.{ℕ, zero, suc, _+_, _*_, _/_, _%_, _≤_, _<_}
+use Prim.Native.Nat.{ℕ, zero, suc, _+_, _*_, _≤_, _<_}
 use mathlib.Core.Path.{_≡_, refl, sym, ap, _∙_, subst}
 use mathlib.Core.List.{List, [], _∷_, _++_, append-assoc, append-nil}
 use native.Mathlib.Nat.{zero-add}
@@ -8,10 +8,9 @@ use native.Mathlib.Numerals.{add-one}
 use native.Mathlib.Omega.{arith}
 use lib.ListN.{length, drop, set, length-set}
 use lib.Seq.{sets, sets-eq, set-out, length-sets}
-use Rattle.script.specs.Bytes.{bytes16, bytes32}
 use Rattle.script.specs.File.{records, numbered}
 use Rattle.script.specs.Tables.{over}
-use Rattle.file.specs.Written.{Put}
+use Rattle.file.specs.Written.{Put, PutWhole}
 use Rattle.file.proofs.RecordLaws.{Layout, records-length, numbered-length}
 
 -- ---- bytes
@@ -36,6 +35,16 @@ pub put-both :
 put-both {l} {k} {m} {vs} {ws} {i} p e q =
     record { puts = q .puts ∙ (λ x. sets (p .puts x) (e x) ws) ∙ sym (sets-append vs ws l i) }
 
+-- all bytes or none
+pub put-whole : {l m vs : List ℕ} {i n : ℕ} → length vs ≡ n → i + n ≤ length l → Put l i vs m → PutWhole l i vs m
+put-whole e h p = record { puts = λ f. p; none = λ f. let z : ⊥ = omega (arith, e) in absurd z }
+
+pub put-none : {l vs : List ℕ} {i n : ℕ} → length vs ≡ n → length l < i + n → PutWhole l i vs l
+put-none e h = record { puts = λ f. let z : ⊥ = omega (arith, e) in absurd z; none = λ f. refl }
+
+pub put-there : {l m vs : List ℕ} {i n : ℕ} → length vs ≡ n → i + n ≤ length l → PutWhole l i vs m → Put l i vs m
+put-there e h p = p .puts (omega (arith, e))
+
 -- stores at distances from a place, as straight-line code makes them
 abbrev pub setsAt : List ℕ → ℕ → ℕ → List ℕ → List ℕ
 setsAt l i k [] = l
@@ -55,27 +64,6 @@ unfolding over
 put-over {vs} {l} p h =
     let e : 0 + length vs ≡ length vs = omega arith in
     p .puts ∙ sets-eq vs l 0 (omega arith) ∙ ap (λ (n : ℕ). vs ++ drop n l) e
-
--- ---- a number of 32 bits, in two halves
-
-halves : (w : ℕ) → bytes32 w ≡ bytes16 (w % 65536) ++ bytes16 (w / 65536)
-unfolding bytes32 bytes16
-halves w = λ x. first x ∷ second x ∷ w / 65536 % 256 ∷ fourth x ∷ []
-  where
-    first : w % 256 ≡ w % 65536 % 256
-    first = omega arith
-
-    second : w / 256 % 256 ≡ w % 65536 / 256 % 256
-    second = omega arith
-
-    fourth : w / 16777216 % 256 ≡ w / 65536 / 256 % 256
-    fourth = ap (λ (n : ℕ). n % 256) (omega arith)
-
-pub put-value :
-    {l k m : List ℕ} {i v w : ℕ} → w ≡ v → Put l i (bytes16 (w % 65536)) k → Put k (i + 2) (bytes16 (w / 65536)) m
-    → Put l i (bytes32 v) m
-unfolding bytes16
-put-value {w = w} e p q = rw (← e, halves w) (put-both p refl q)
 
 -- ---- records
 
@@ -119,7 +107,7 @@ pub record Progress {A : Type 0} (L : Layout A) (g : ℕ → A) (o n : ℕ) (bef
   pub kept : length after ≡ length before
   pub put : Put before o (records (L .write) (numbered g 0 j)) after
 
-put-length : {l m vs : List ℕ} {i : ℕ} → Put l i vs m → length m ≡ length l
+pub put-length : {l m vs : List ℕ} {i : ℕ} → Put l i vs m → length m ≡ length l
 put-length {l} {m} {vs} {i} p = ap length (p .puts) ∙ length-sets l i vs
 
 -- bytes that are equal may stand for each other

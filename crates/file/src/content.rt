@@ -1,26 +1,27 @@
-// The contents of records, read from columns: refusals 3, 4 and 5.
+// The contents of records, read from columns: refusals 3, 4 and 5. The nodes are packed into words as they are read.
 use crate::records::record_refusal;
 use lambdamix::Use;
 use script::Found;
 use script::Refusal;
 use script::Verdict;
-use script::column::at8;
 use script::column::at16;
-use script::column::at32;
 use script::kinds::use_of;
 use script::limits::counts_right;
+use script::word::pack_node;
 ghost use mathlib.Core.Path.{_≡_};
-ghost use Prim.Native.Nat.{_<_, _≤_};
+ghost use Prim.Native.Nat.{min, _<_, _≤_};
 ghost use mathlib.Core.Bool.{_&&_};
 ghost use mathlib.Core.List.{[], _∷_};
 ghost use lib.IntN.{pos};
-ghost use lib.ListN.{getD};
+ghost use lib.ListN.{getD, length};
 ghost use Rattle.lambdamix.specs.Arithmetic.{eqZ};
+ghost use Rattle.lambdamix.specs.Limits.{maxNodes};
 ghost use Rattle.lambdamix.specs.Structure.{firstFailing};
 ghost use Rattle.script.specs.Refusals.{otherPair, typeFits, inputFits, fieldRight, fieldsRight, nodeFits};
 ghost use Rattle.script.specs.Replies.{foundAt, refusalOf};
 ghost use Rattle.script.specs.Kinds.{usesTable};
 ghost use Rattle.script.specs.Columns.{typesIn, inputsIn, nodesIn, nodeOf, tablesOf, contentIn};
+ghost use Rattle.file.specs.PackedTables.{HoldNodes, PackedNodes, PackedTables};
 
 fn wide(x: u16) -> usize
     ensures { λ r. ⌜ r ≡ x ⌝ }
@@ -240,33 +241,7 @@ fn first_bad_input(inputs: usize, input_types: &[u16]) -> Found
     Found::Nowhere
 }
 
-fn node_at_right(
-    types: usize,
-    inputs: usize,
-    kinds: &[u8],
-    a: &[u16],
-    b: &[u16],
-    c: &[u16],
-    values: &[i32],
-    j: usize,
-) -> bool
-    requires { ⌜ types < 65536 ⌝ }
-    ensures { λ r. ⌜ r ≡ nodeFits types inputs (nodesIn (now (kinds .entry)) (now (a .entry)) (now (b .entry)) (now (c .entry)) (now (values .entry))) j ⌝ }
-{
-    let kind = at8(kinds, j);
-    let value = at32(values, j);
-    node_right(
-        types,
-        inputs,
-        j,
-        kind,
-        at16(a, j),
-        at16(b, j),
-        at16(c, j),
-        value,
-    )
-}
-
+// The first bad node. Each node is read from its columns once, and its word is written.
 fn first_bad_node(
     types: usize,
     inputs: usize,
@@ -276,13 +251,22 @@ fn first_bad_node(
     b: &[u16],
     c: &[u16],
     values: &[i32],
+    words: &mut [u64],
 ) -> Found
-    requires { ⌜ types < 65536 ⌝ }
-    ensures { λ r. ⌜ foundAt r ≡ firstFailing (nodeFits types inputs (nodesIn (now (kinds .entry)) (now (a .entry)) (now (b .entry)) (now (c .entry)) (now (values .entry)))) 0 nodes ⌝ }
+    requires { ⌜ (types < 65536) × ((nodes ≤ maxNodes) × (nodes ≤ length (now words))) ⌝ }
+    requires { ⌜ HoldNodes nodes (now kinds) (now a) (now b) (now c) (now values) ⌝ }
+    ensures found { λ r. ⌜ foundAt r ≡ firstFailing (nodeFits types inputs (nodesIn (now (kinds .entry)) (now (a .entry)) (now (b .entry)) (now (c .entry)) (now (values .entry)))) 0 nodes ⌝ }
+    ensures packed { λ r. ⌜ PackedNodes r nodes (nodesIn (now (kinds .entry)) (now (a .entry)) (now (b .entry)) (now (c .entry)) (now (values .entry))) (now (words .exit)) ⌝ }
 {
     let mut j = 0;
     while j < nodes {
-        if node_at_right(types, inputs, kinds, a, b, c, values, j) {
+        let kind = kinds[j];
+        let x = a[j];
+        let y = b[j];
+        let z = c[j];
+        let value = values[j];
+        words[j] = pack_node(kind, x, y, z, value);
+        if node_right(types, inputs, j, kind, x, y, z, value) {
             j += 1;
         } else {
             return Found::At(j);
@@ -291,8 +275,8 @@ fn first_bad_node(
     Found::Nowhere
 }
 
-// Refusal 3, then 4 and 5 at the first record that is bad.
-pub fn content_refusal(
+// Refusal 3, then 4 and 5 at the first record that is bad; where none is, the words of the nodes.
+pub(crate) fn content_refusal(
     types: usize,
     inputs: usize,
     nodes: usize,
@@ -304,13 +288,17 @@ pub fn content_refusal(
     b: &[u16],
     c: &[u16],
     values: &[i32],
+    words: &mut [u64],
 ) -> Verdict
-    ensures { λ r. ⌜ refusalOf r ≡ contentIn types inputs nodes (tablesOf (now (parameters .entry)) (now (results .entry)) (now («input_types» .entry)) (now (kinds .entry)) (now (a .entry)) (now (b .entry)) (now (c .entry)) (now (values .entry))) ⌝ }
+    requires { ⌜ HoldNodes nodes (now kinds) (now a) (now b) (now c) (now values) ⌝ }
+    requires { ⌜ min nodes maxNodes ≤ length (now words) ⌝ }
+    ensures reply { λ r. ⌜ refusalOf r ≡ contentIn types inputs nodes (tablesOf (now (parameters .entry)) (now (results .entry)) (now («input_types» .entry)) (now (kinds .entry)) (now (a .entry)) (now (b .entry)) (now (c .entry)) (now (values .entry))) ⌝ }
+    ensures packed { λ r. ⌜ PackedTables r nodes (tablesOf (now (parameters .entry)) (now (results .entry)) (now («input_types» .entry)) (now (kinds .entry)) (now (a .entry)) (now (b .entry)) (now (c .entry)) (now (values .entry))) (now (words .entry)) (now (words .exit)) ⌝ }
 {
     if counts_right(types, inputs, nodes) {
         let bad_type = first_bad_type(types, parameters, results);
         let bad_input = first_bad_input(inputs, input_types);
-        let bad_node = first_bad_node(types, inputs, nodes, kinds, a, b, c, values);
+        let bad_node = first_bad_node(types, inputs, nodes, kinds, a, b, c, values, words);
         record_refusal(types, inputs, 4, 5, bad_type, bad_input, bad_node)
     } else {
         Verdict::Refused(Refusal {

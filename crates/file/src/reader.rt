@@ -19,11 +19,11 @@ use script::limits::MAX_NODES;
 use script::limits::MAX_TYPES;
 use script::limits::counts_right;
 use script::structure::structure_refusal;
-use script::word::pack;
 ghost use mathlib.Core.Path.{_≡_};
 ghost use mathlib.Core.Bool.{true};
 ghost use Rattle.script.specs.Replies.{refusalOf, Reads};
 ghost use Rattle.file.specs.Heads.{headCounts, headRefusal, recordsRefusal, FillFits, FilledWhere, isPassed, replyBy};
+ghost use Rattle.file.specs.PackedTables.{HoldNodes};
 ghost use Rattle.script.specs.File.{headTypes, headInputs, headNodes, scriptIn};
 ghost use Rattle.script.specs.Refusals.{countsRight, earlier, bodyRefusal, fileRefusal};
 ghost use Rattle.script.specs.Tables.{filled};
@@ -141,12 +141,14 @@ fn records_refusal(
     values: &[i32],
 ) -> Verdict
     requires { ⌜ countsRight (n .types) (n .inputs) (n .nodes) ≡ true ⌝ }
+    requires { ⌜ HoldNodes (n .nodes) (now kinds) (now a) (now b) (now c) (now values) ⌝ }
     ensures { λ r. ⌜ refusalOf r ≡ recordsRefusal (now (file .entry)) n (tablesOf (now (parameters .entry)) (now (results .entry)) (now («input_types» .entry)) (now (kinds .entry)) (now (a .entry)) (now (b .entry)) (now (c .entry)) (now (values .entry))) ⌝ }
 {
     let types = n.types as usize;
     let inputs = n.inputs as usize;
     let nodes = n.nodes as usize;
     let marks = mark_refusal(file, types, inputs, nodes);
+    let mut words = [0u64; MAX_NODES];
     let content = content_refusal(
         types,
         inputs,
@@ -159,14 +161,11 @@ fn records_refusal(
         b,
         c,
         values,
+        &mut words,
     );
     match earlier(marks, content) {
         Verdict::Refused(f) => Verdict::Refused(f),
-        Verdict::Passed => {
-            let mut words = [0u64; MAX_NODES];
-            pack(kinds, a, b, c, values, nodes, &mut words);
-            structure_refusal(&words, inputs, nodes)
-        }
+        Verdict::Passed => structure_refusal(&words, inputs, nodes),
     }
 }
 

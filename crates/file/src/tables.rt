@@ -3,12 +3,12 @@ use crate::content::content_refusal;
 use script::Counts;
 use script::Refusal;
 use script::Verdict;
+use script::limits::FEW_NODES;
 use script::limits::MAX_NODES;
 use script::structure::structure_refusal;
-use script::word::pack;
 ghost use mathlib.Core.Path.{_≡_};
 ghost use mathlib.Core.Bool.{_&&_};
-ghost use Prim.Native.Nat.{_≤_};
+ghost use Prim.Native.Nat.{min, _≤_};
 ghost use lib.Dec.{leb};
 ghost use lib.ListN.{length};
 ghost use Rattle.lambdamix.specs.Limits.{maxNodes};
@@ -16,7 +16,7 @@ ghost use Rattle.script.specs.Refusals.{scriptRefusal};
 ghost use Rattle.script.specs.Tables.{tablesScript, tablesRefusal};
 ghost use Rattle.script.specs.Replies.{refusalOf};
 ghost use Rattle.script.specs.Columns.{tablesOf, enough};
-ghost use Rattle.file.specs.PackedTables.{PackedTables};
+ghost use Rattle.file.specs.PackedTables.{HoldNodes, PackedTables};
 
 // Whether two columns, by their lengths, hold n records.
 fn both_hold(n: usize, x: usize, y: usize) -> bool
@@ -57,7 +57,7 @@ pub fn long_enough(
     false
 }
 
-// Refusals 3 to 8. Where the contents pass, the nodes are packed into the words.
+// Refusals 3 to 8. Where the contents pass, the words hold the nodes.
 fn script_refusal(
     types: usize,
     inputs: usize,
@@ -70,9 +70,10 @@ fn script_refusal(
     b: &[u16],
     c: &[u16],
     values: &[i32],
-    words: &mut [u64; MAX_NODES],
+    words: &mut [u64],
 ) -> Verdict
-    requires { ⌜ maxNodes ≤ length (now words) ⌝ }
+    requires { ⌜ HoldNodes nodes (now kinds) (now a) (now b) (now c) (now values) ⌝ }
+    requires { ⌜ min nodes maxNodes ≤ length (now words) ⌝ }
     ensures reply { λ r. ⌜ refusalOf r ≡ scriptRefusal (tablesScript types inputs nodes (tablesOf (now (parameters .entry)) (now (results .entry)) (now («input_types» .entry)) (now (kinds .entry)) (now (a .entry)) (now (b .entry)) (now (c .entry)) (now (values .entry)))) ⌝ }
     ensures packed { λ r. ⌜ PackedTables r nodes (tablesOf (now (parameters .entry)) (now (results .entry)) (now («input_types» .entry)) (now (kinds .entry)) (now (a .entry)) (now (b .entry)) (now (c .entry)) (now (values .entry))) (now (words .entry)) (now (words .exit)) ⌝ }
 {
@@ -88,12 +89,10 @@ fn script_refusal(
         b,
         c,
         values,
+        words,
     ) {
         Verdict::Refused(f) => Verdict::Refused(f),
-        Verdict::Passed => {
-            pack(kinds, a, b, c, values, nodes, words);
-            structure_refusal(words, inputs, nodes)
-        }
+        Verdict::Passed => structure_refusal(words, inputs, nodes),
     }
 }
 
@@ -108,9 +107,9 @@ fn packed_refusal(
     b: &[u16],
     c: &[u16],
     values: &[i32],
-    words: &mut [u64; MAX_NODES],
+    words: &mut [u64],
 ) -> Verdict
-    requires { ⌜ maxNodes ≤ length (now words) ⌝ }
+    requires { ⌜ min (n .nodes) maxNodes ≤ length (now words) ⌝ }
     ensures reply { λ r. ⌜ refusalOf r ≡ tablesRefusal (n .types) (n .inputs) (n .nodes) (tablesOf (now (parameters .entry)) (now (results .entry)) (now («input_types» .entry)) (now (kinds .entry)) (now (a .entry)) (now (b .entry)) (now (c .entry)) (now (values .entry))) ⌝ }
     ensures packed { λ r. ⌜ PackedTables r (n .nodes) (tablesOf (now (parameters .entry)) (now (results .entry)) (now («input_types» .entry)) (now (kinds .entry)) (now (a .entry)) (now (b .entry)) (now (c .entry)) (now (values .entry))) (now (words .entry)) (now (words .exit)) ⌝ }
 {
@@ -164,6 +163,21 @@ pub fn tables_refusal(
 ) -> Verdict
     ensures { λ r. ⌜ refusalOf r ≡ tablesRefusal (n .types) (n .inputs) (n .nodes) (tablesOf (now (parameters .entry)) (now (results .entry)) (now («input_types» .entry)) (now (kinds .entry)) (now (a .entry)) (now (b .entry)) (now (c .entry)) (now (values .entry))) ⌝ }
 {
+    if (n.nodes as usize) <= FEW_NODES {
+        let mut words = [0u64; FEW_NODES];
+        return packed_refusal(
+            n,
+            parameters,
+            results,
+            input_types,
+            kinds,
+            a,
+            b,
+            c,
+            values,
+            &mut words,
+        );
+    }
     let mut words = [0u64; MAX_NODES];
     packed_refusal(
         n,
@@ -179,11 +193,14 @@ pub fn tables_refusal(
     )
 }
 
-// Whether there are words for as many nodes as a script may have, as in every array of that length.
-fn enough_words(words: &[u64]) -> bool
-    ensures { λ r. ⌜ r ≡ leb maxNodes (length (now (words .entry))) ⌝ }
+// Whether there are words for the nodes, or for as many as a script may have.
+fn enough_words(nodes: u16, words: usize) -> bool
+    ensures { λ r. ⌜ r ≡ leb (min nodes maxNodes) words ⌝ }
 {
-    MAX_NODES <= words.len()
+    if MAX_NODES <= words {
+        return true;
+    }
+    (nodes as usize) <= words
 }
 
 // The same, and where nothing is refused the nodes in the lent words.
@@ -197,12 +214,12 @@ pub fn tables_packed(
     b: &[u16],
     c: &[u16],
     values: &[i32],
-    words: &mut [u64; MAX_NODES],
+    words: &mut [u64],
 ) -> Verdict
     ensures reply { λ r. ⌜ refusalOf r ≡ tablesRefusal (n .types) (n .inputs) (n .nodes) (tablesOf (now (parameters .entry)) (now (results .entry)) (now («input_types» .entry)) (now (kinds .entry)) (now (a .entry)) (now (b .entry)) (now (c .entry)) (now (values .entry))) ⌝ }
     ensures packed { λ r. ⌜ PackedTables r (n .nodes) (tablesOf (now (parameters .entry)) (now (results .entry)) (now («input_types» .entry)) (now (kinds .entry)) (now (a .entry)) (now (b .entry)) (now (c .entry)) (now (values .entry))) (now (words .entry)) (now (words .exit)) ⌝ }
 {
-    if enough_words(words) {
+    if enough_words(n.nodes, words.len()) {
         packed_refusal(
             n,
             parameters,

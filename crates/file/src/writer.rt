@@ -1,4 +1,4 @@
-// The writer of script files. A part is put at a place of the output; past the end nothing is put.
+// The writer of script files. A part is put at a place of the output; past the end nothing is put, of a node nothing at all.
 use crate::tables;
 use script::Counts;
 use script::Refusal;
@@ -10,11 +10,11 @@ ghost use Prim.Native.Nat.{_+_, _*_, _≤_};
 ghost use lib.ListN.{length};
 ghost use mathlib.Core.Path.{_≡_};
 ghost use mathlib.Core.List.{[], _∷_};
-ghost use Rattle.script.specs.Bytes.{bits32, bytes16, bytes32};
+ghost use Rattle.script.specs.Bytes.{bytes16};
 ghost use Rattle.script.specs.File.{typeBytes, inputBytes, nodeBytes, records, numbered, fileBytes, fileLength};
 ghost use Rattle.script.specs.Tables.{tablesScript};
 ghost use Rattle.script.specs.Replies.{Writes};
-ghost use Rattle.file.specs.Written.{Put, Fitted, headRow, typeRow, inputRow, nodeRow, nodeParts};
+ghost use Rattle.file.specs.Written.{Put, PutWhole, Fitted, headRow, typeRow, inputRow, nodeRow, nodeParts};
 
 // Two bytes at a place.
 fn pair_at(out: &mut [u8], at: usize, first: u8, second: u8)
@@ -33,17 +33,6 @@ fn word_at(out: &mut [u8], at: usize, v: u16)
     let low = (v % 256) as u8;
     let high = (v / 256 % 256) as u8;
     pair_at(out, at, low, high)
-}
-
-// A signed number of 32 bits at a place, the low byte first.
-fn value_at(out: &mut [u8], at: usize, v: i32)
-    ensures { λ r. ⌜ Put (now (out .entry)) at (bytes32 (bits32 v)) (now (out .exit)) ⌝ }
-{
-    if at < out.len() {
-        let w = bits(v);
-        word_at(out, at, (w % 65536) as u16);
-        word_at(out, at + 2, (w / 65536) as u16);
-    }
 }
 
 // A record of each kind at a place.
@@ -97,31 +86,14 @@ fn node_inside(out: &mut [u8], at: usize, kind: u8, a: u16, b: u16, c: u16, w: u
     out[at + 12] = (w / 16777216 % 256) as u8;
 }
 
-// The same where the output may end: byte after byte.
-fn node_part(out: &mut [u8], at: usize, kind: u8, a: u16, b: u16, c: u16, value: i32)
-    ensures { λ r. ⌜ Put (now (out .entry)) at (nodeBytes (record { kind = kind; a = a; b = b; c = c; value = value })) (now (out .exit)) ⌝ }
+// The same where the output may end sooner: then nothing is put. A place of 32 bits cannot wrap, so there is one test.
+pub fn node_at(out: &mut [u8], at: u32, kind: u8, a: u16, b: u16, c: u16, value: i32)
+    ensures { λ r. ⌜ PutWhole (now (out .entry)) at (nodeBytes (record { kind = kind; a = a; b = b; c = c; value = value })) (now (out .exit)) ⌝ }
 {
-    if at < out.len() {
-        pair_at(out, at, b'N', b'D');
-        column::put8(out, at + 2, kind);
-        word_at(out, at + 3, a);
-        word_at(out, at + 5, b);
-        word_at(out, at + 7, c);
-        value_at(out, at + 9, value);
+    let first = at as usize;
+    if first + 13 <= out.len() {
+        node_inside(out, first, kind, a, b, c, bits(value));
     }
-}
-
-pub fn node_at(out: &mut [u8], at: usize, kind: u8, a: u16, b: u16, c: u16, value: i32)
-    ensures { λ r. ⌜ Put (now (out .entry)) at (nodeBytes (record { kind = kind; a = a; b = b; c = c; value = value })) (now (out .exit)) ⌝ }
-{
-    let size = out.len();
-    if 13 <= size {
-        if at <= size - 13 {
-            node_inside(out, at, kind, a, b, c, bits(value));
-            return;
-        }
-    }
-    node_part(out, at, kind, a, b, c, value)
 }
 
 // All records of a kind, one after the other, where the counts place them.
@@ -160,6 +132,7 @@ fn nodes_at(
     c: &[u16],
     values: &[i32],
 )
+    requires { ⌜ fileLength (n .types) (n .inputs) (n .nodes) ≤ length (now out) ⌝ }
     ensures { λ r. ⌜ Put (now (out .entry)) (8 + 6 * n .types + 4 * n .inputs) (records nodeBytes (numbered (nodeRow (now (kinds .entry)) (now (a .entry)) (now (b .entry)) (now (c .entry)) (now (values .entry))) 0 (n .nodes))) (now (out .exit)) ⌝ }
 {
     let first = 8 + 6 * (n.types as usize) + 4 * (n.inputs as usize);
@@ -171,7 +144,7 @@ fn nodes_at(
         let fb = column::at16(b, j);
         let fc = column::at16(c, j);
         let value = column::at32(values, j);
-        node_at(out, first + 13 * j, kind, fa, fb, fc, value);
+        node_at(out, (first + 13 * j) as u32, kind, fa, fb, fc, value);
         j += 1;
     }
 }
@@ -189,6 +162,7 @@ fn emit(
     values: &[i32],
     out: &mut [u8],
 )
+    requires { ⌜ fileLength (n .types) (n .inputs) (n .nodes) ≤ length (now out) ⌝ }
     ensures { λ r. ⌜ Put (now (out .entry)) 0 (fileBytes (tablesScript (n .types) (n .inputs) (n .nodes) (record { parameters = now (parameters .entry); results = now (results .entry); inputs = now (inputs .entry); kinds = now (kinds .entry); a = now (a .entry); b = now (b .entry); c = now (c .entry); values = now (values .entry) }))) (now (out .exit)) ⌝ }
 {
     head_at(out, 0, n);

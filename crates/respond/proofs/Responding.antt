@@ -86,16 +86,16 @@ module _ (input : List ℕ) {x y : Tables} {end : ℕ} {reply : Reading}
 -- ---- the call
 
 pub settings-room :
-    {ps rs is ks xs ys zs vs settings cells words codes file out : ℕ} {r : Bool} →
-    Suffices ps rs is ks xs ys zs vs settings cells words codes file out r → r ≡ true → 17 ≤ settings
-settings-room {ps} {rs} {is} {ks} {xs} {ys} {zs} {vs} {settings} {cells} {words} {codes} {file} {out} s t =
-    let rest : Bool = (leb 4016 cells && (leb 4016 words && leb 8016 codes)) && (leb 65536 file && leb 65536 out) in
+    {ps rs is ks xs ys zs vs settings heap codes file out : ℕ} {r : Bool} →
+    Suffices ps rs is ks xs ys zs vs settings heap codes file out r → r ≡ true → 17 ≤ settings
+settings-room {ps} {rs} {is} {ks} {xs} {ys} {zs} {vs} {settings} {heap} {codes} {file} {out} s t =
+    let rest : Bool = (leb 4016 heap && leb 8016 codes) && (leb 65536 file && leb 65536 out) in
     leb-true 17 settings
     (and-both (leb 17 settings) rest (and-both (enough 64 16 4096 ps rs is ks xs ys zs vs) (leb 17 settings && rest) (sym (s .told) ∙ t) .1) .0)
 
 module _ (x : Tables) (zs : List ℤ) (before : Stores) (file out : List ℕ) {b : Bool}
     (told : b ≡ (enough 64 16 4096 (length (x .parameters)) (length (x .results)) (length (x .inputs)) (length (x .kinds)) (length (x .a)) (length (x .b)) (length (x .c)) (length (x .values))
-    && (leb 17 (length zs) && ((leb 4016 (length (before .cells)) && (leb 4016 (length (before .words)) && leb 8016 (length (before .codes)))) && (leb 65536 (length file) && leb 65536 (length out)))))) where
+    && (leb 17 (length zs) && ((leb 4016 (length (before .heap)) && leb 8016 (length (before .codes))) && (leb 65536 (length file) && leb 65536 (length out)))))) where
   room-is : roomy x zs before file out ≡ b
   unfolding roomy textRoom longEnough enough storesSuffice suffices programFuel maxTypes maxInputs maxNodes
   room-is = sym told

@@ -23,9 +23,9 @@ use Rattle.respond.specs.Response.{programFuel, wholeSettings, settingsR
 use Rattle.respond.specs.Answers.{laterRefusal, runRefusal}
 
 -- whether what is lent suffices, by its lengths
-pub record Suffices (parameters results inputs kinds a b c values settings cells words codes file out : ℕ) (r : Bool) : Type 0 where
+pub record Suffices (parameters results inputs kinds a b c values settings heap codes file out : ℕ) (r : Bool) : Type 0 where
   pub told : r ≡ (enough 64 16 4096 parameters results inputs kinds a b c values
-      && (leb 17 settings && ((leb 4016 cells && (leb 4016 words && leb 8016 codes)) && (leb 65536 file && leb 65536 out))))
+      && (leb 17 settings && ((leb 4016 heap && leb 8016 codes) && (leb 65536 file && leb 65536 out))))
 
 -- a text that fits 65,536 bytes is printed
 pub record Prints (text before after : List ℕ) (r : ℕ) : Type 0 where

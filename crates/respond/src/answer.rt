@@ -26,14 +26,13 @@ fn answer(
     c: &mut [u16],
     values: &mut [i32],
     settings: &mut [i32],
-    cells: &mut [u32],
-    words: &mut [u64],
+    heap: &mut [u64],
     codes: &mut [u64],
     file: &mut [u8],
     out: &mut [u8],
 ) -> usize
     requires { ⌜ 17 ≤ length (now settings) ⌝ }
-    ensures { λ r. ⌜ Answers (now (input .entry)) (tablesOf (now (parameters .entry)) (now (results .entry)) (now (inputs .entry)) (now (kinds .entry)) (now (a .entry)) (now (b .entry)) (now (c .entry)) (now (values .entry))) (stores (now (cells .entry)) (now (words .entry)) (now (codes .entry))) (stores (now (cells .exit)) (now (words .exit)) (now (codes .exit))) (now (file .entry)) (now (out .entry)) (now (out .exit)) r ⌝ }
+    ensures { λ r. ⌜ Answers (now (input .entry)) (tablesOf (now (parameters .entry)) (now (results .entry)) (now (inputs .entry)) (now (kinds .entry)) (now (a .entry)) (now (b .entry)) (now (c .entry)) (now (values .entry))) (stores (now (heap .entry)) (now (codes .entry))) (stores (now (heap .exit)) (now (codes .exit))) (now (file .entry)) (now (out .entry)) (now (out .exit)) r ⌝ }
 {
     let first = 0;
     let end = script_end(input);
@@ -63,8 +62,7 @@ fn answer(
             c,
             values,
             settings,
-            cells,
-            words,
+            heap,
             codes,
             file,
             out,
@@ -84,13 +82,12 @@ pub fn respond(
     c: &mut [u16],
     values: &mut [i32],
     settings: &mut [i32],
-    cells: &mut [u32],
-    words: &mut [u64],
+    heap: &mut [u64],
     codes: &mut [u64],
     file: &mut [u8],
     out: &mut [u8],
 ) -> Response
-    ensures { λ r. ⌜ Responds (now (input .entry)) (tablesOf (now (parameters .entry)) (now (results .entry)) (now (inputs .entry)) (now (kinds .entry)) (now (a .entry)) (now (b .entry)) (now (c .entry)) (now (values .entry))) (tablesOf (now (parameters .exit)) (now (results .exit)) (now (inputs .exit)) (now (kinds .exit)) (now (a .exit)) (now (b .exit)) (now (c .exit)) (now (values .exit))) (now (settings .entry)) (now (settings .exit)) (stores (now (cells .entry)) (now (words .entry)) (now (codes .entry))) (stores (now (cells .exit)) (now (words .exit)) (now (codes .exit))) (now (file .entry)) (now (file .exit)) (now (out .entry)) (now (out .exit)) r ⌝ }
+    ensures { λ r. ⌜ Responds (now (input .entry)) (tablesOf (now (parameters .entry)) (now (results .entry)) (now (inputs .entry)) (now (kinds .entry)) (now (a .entry)) (now (b .entry)) (now (c .entry)) (now (values .entry))) (tablesOf (now (parameters .exit)) (now (results .exit)) (now (inputs .exit)) (now (kinds .exit)) (now (a .exit)) (now (b .exit)) (now (c .exit)) (now (values .exit))) (now (settings .entry)) (now (settings .exit)) (stores (now (heap .entry)) (now (codes .entry))) (stores (now (heap .exit)) (now (codes .exit))) (now (file .entry)) (now (file .exit)) (now (out .entry)) (now (out .exit)) r ⌝ }
 {
     if suffices(
         parameters.len(),
@@ -102,8 +99,7 @@ pub fn respond(
         c.len(),
         values.len(),
         settings.len(),
-        cells.len(),
-        words.len(),
+        heap.len(),
         codes.len(),
         file.len(),
         out.len(),
@@ -119,8 +115,7 @@ pub fn respond(
             c,
             values,
             settings,
-            cells,
-            words,
+            heap,
             codes,
             file,
             out,

@@ -6,7 +6,7 @@ pub const FUEL: usize = 4000;
 
 pub const SETTINGS: usize = MAX_INPUTS + 1;
 
-pub const CELLS: usize = FUEL + MAX_INPUTS;
+pub const HEAP: usize = FUEL + MAX_INPUTS;
 
 pub const CODES: usize = 2 * FUEL + MAX_INPUTS;
 

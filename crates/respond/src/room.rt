@@ -1,6 +1,6 @@
 // Whether what is lent suffices for every input.
-use crate::limits::CELLS;
 use crate::limits::CODES;
+use crate::limits::HEAP;
 use crate::limits::MAX_BYTES;
 use crate::limits::SETTINGS;
 use file::tables::long_enough;
@@ -14,23 +14,13 @@ ghost use lib.Dec.{leb};
 ghost use Rattle.respond.specs.Stages.{Suffices};
 
 // Settings, stores, the made file and the output, by their lengths.
-fn rest_suffices(
-    settings: usize,
-    cells: usize,
-    words: usize,
-    codes: usize,
-    file: usize,
-    out: usize,
-) -> bool
-    ensures { λ r. ⌜ r ≡ (leb 17 settings && ((leb 4016 cells && (leb 4016 words && leb 8016 codes)) && (leb 65536 file && leb 65536 out))) ⌝ }
+fn rest_suffices(settings: usize, heap: usize, codes: usize, file: usize, out: usize) -> bool
+    ensures { λ r. ⌜ r ≡ (leb 17 settings && ((leb 4016 heap && leb 8016 codes) && (leb 65536 file && leb 65536 out))) ⌝ }
 {
     if settings < SETTINGS {
         return false;
     }
-    if cells < CELLS {
-        return false;
-    }
-    if words < CELLS {
+    if heap < HEAP {
         return false;
     }
     if codes < CODES {
@@ -52,13 +42,12 @@ pub(crate) fn suffices(
     c: usize,
     values: usize,
     settings: usize,
-    cells: usize,
-    words: usize,
+    heap: usize,
     codes: usize,
     file: usize,
     out: usize,
 ) -> bool
-    ensures { λ r. ⌜ Suffices parameters results inputs kinds a b c values settings cells words codes file out r ⌝ }
+    ensures { λ r. ⌜ Suffices parameters results inputs kinds a b c values settings heap codes file out r ⌝ }
 {
     let n = Counts {
         types: MAX_TYPES as u16,
@@ -66,7 +55,7 @@ pub(crate) fn suffices(
         nodes: MAX_NODES as u16,
     };
     if long_enough(n, parameters, results, inputs, kinds, a, b, c, values) {
-        return rest_suffices(settings, cells, words, codes, file, out);
+        return rest_suffices(settings, heap, codes, file, out);
     }
     false
 }

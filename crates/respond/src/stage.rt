@@ -36,13 +36,12 @@ fn make_given(
     c: &[u16],
     values: &[i32],
     settings: &mut [i32],
-    cells: &mut [u32],
-    words: &mut [u64],
+    heap: &mut [u64],
     codes: &mut [u64],
     file: &mut [u8],
 ) -> Reply
     requires { ⌜ 17 ≤ length (now settings) ⌝ }
-    ensures { λ r. ⌜ Makes false n (tablesOf (now (parameters .entry)) (now (results .entry)) (now (inputs .entry)) (now (kinds .entry)) (now (a .entry)) (now (b .entry)) (now (c .entry)) (now (values .entry))) (givenSettings (now (rest .entry))) programFuel (stores (now (cells .entry)) (now (words .entry)) (now (codes .entry))) (stores (now (cells .exit)) (now (words .exit)) (now (codes .exit))) (now (file .entry)) (now (file .exit)) r ⌝ }
+    ensures { λ r. ⌜ Makes false n (tablesOf (now (parameters .entry)) (now (results .entry)) (now (inputs .entry)) (now (kinds .entry)) (now (a .entry)) (now (b .entry)) (now (c .entry)) (now (values .entry))) (givenSettings (now (rest .entry))) programFuel (stores (now (heap .entry)) (now (codes .entry))) (stores (now (heap .exit)) (now (codes .exit))) (now (file .entry)) (now (file .exit)) r ⌝ }
 {
     let first = 0;
     let count = given_count(rest);
@@ -59,8 +58,7 @@ fn make_given(
         values,
         &settings[first..count],
         FUEL as u32,
-        cells,
-        words,
+        heap,
         codes,
         file,
     )
@@ -157,14 +155,13 @@ pub(crate) fn answer_script(
     c: &mut [u16],
     values: &mut [i32],
     settings: &mut [i32],
-    cells: &mut [u32],
-    words: &mut [u64],
+    heap: &mut [u64],
     codes: &mut [u64],
     file: &mut [u8],
     out: &mut [u8],
 ) -> usize
     requires { ⌜ 17 ≤ length (now settings) ⌝ }
-    ensures { λ r. ⌜ AnswersScript n (now (rest .entry)) (tablesOf (now (parameters .entry)) (now (results .entry)) (now (inputs .entry)) (now (kinds .entry)) (now (a .entry)) (now (b .entry)) (now (c .entry)) (now (values .entry))) (stores (now (cells .entry)) (now (words .entry)) (now (codes .entry))) (stores (now (cells .exit)) (now (words .exit)) (now (codes .exit))) (now (file .entry)) (now (out .entry)) (now (out .exit)) r ⌝ }
+    ensures { λ r. ⌜ AnswersScript n (now (rest .entry)) (tablesOf (now (parameters .entry)) (now (results .entry)) (now (inputs .entry)) (now (kinds .entry)) (now (a .entry)) (now (b .entry)) (now (c .entry)) (now (values .entry))) (stores (now (heap .entry)) (now (codes .entry))) (stores (now (heap .exit)) (now (codes .exit))) (now (file .entry)) (now (out .entry)) (now (out .exit)) r ⌝ }
 {
     let reply = make_given(
         n,
@@ -178,8 +175,7 @@ pub(crate) fn answer_script(
         c,
         values,
         settings,
-        cells,
-        words,
+        heap,
         codes,
         file,
     );

@@ -1,19 +1,19 @@
 -- What is packed into a word comes out of it again: a signed number's bits, and a node. Assumes nothing.
-use Prim.Native.Nat.{ℕ, _+_, _-_, _%_, _<_, _≤_}
-use mathlib.Core.Path.{_≡_, refl, sym, ap, _∙_, subst}
+use Prim.Native.Nat.{ℕ, _+_, _-_, _%_, _<_}
+use mathlib.Core.Path.{_≡_, refl, sym, ap, _∙_}
 use mathlib.Core.Bool.{Bool, true, false}
 use mathlib.Core.List.{List}
 use native.Mathlib.Omega.{arith}
 use lib.IntN.{ℤ, pos, negsuc}
 use lib.Signed.{mag}
-use lib.ListN.{length, getD, set, length-set}
+use lib.ListN.{length, getD, set}
 use lib.Seq.{getD-set-same, getD-set-other}
 use borrow.Author.Tests.{lt-ltb, le-ltb, ltb-true, ltb-false, eqb-true, eqb-false}
 use lib.Dec.{ltb, eqb}
 use Rattle.lambdamix.specs.Script.{Node}
 use Rattle.script.specs.Bytes.{signed32, signedBy, bits32}
 use Rattle.script.specs.Columns.{nodeOf}
-use Rattle.script.specs.Words.{word, wordKind, wordA, wordB, wordC, wordValue, Holds, Packed, Packs}
+use Rattle.script.specs.Words.{word, wordKind, wordA, wordB, wordC, wordValue, Holds, Packed}
 
 -- a signed number of 32 bits
 abbrev pub Fits32 : ℤ → Type 0
@@ -94,32 +94,17 @@ holds-row h pk pa pb pc pv = rw (← pk, ← pa, ← pb, ← pc, ← pv) h
 
 -- ---- packing, node by node
 
--- the first j words hold their nodes, as far as there are words
-pub record Packing (j : ℕ) (nodes : ℕ → Node) (before ws : List ℕ) : Type 0 where
-  pub same : length ws ≡ length before
-  pub held : (i : ℕ) → i < j → i < length ws → Holds (getD ws i 0) (nodes i)
+pub packed-none : (nodes : ℕ → Node) (ws : List ℕ) → Packed 0 nodes ws
+packed-none nodes ws = record { each = λ i h. absurd (omega arith) }
 
-pub packing-begins : (nodes : ℕ → Node) (ws : List ℕ) → Packing 0 nodes ws ws
-packing-begins nodes ws = record { same = refl; held = λ i h l. absurd (omega arith) }
-
-pub packing-goes-on :
-    {j w : ℕ} {nodes : ℕ → Node} {before ws after : List ℕ} → Packing j nodes before ws → Holds w (nodes j) →
-    after ≡ set ws j w → Packing (j + 1) nodes before after
-packing-goes-on {j} {w} {nodes} {before} {ws} p h e =
-    rw e (record { same = length-set ws j w ∙ p .same; held = go })
+pub packed-more :
+    {j w : ℕ} {nodes : ℕ → Node} {ws : List ℕ} → Packed j nodes ws → Holds w (nodes j) → j < length ws →
+    Packed (j + 1) nodes (set ws j w)
+packed-more {j} {w} {nodes} {ws} p h l = record { each = go }
   where
-    go : (i : ℕ) → i < j + 1 → i < length (set ws j w) → Holds (getD (set ws j w) i 0) (nodes i)
-    go i m k = by (eqb i j) refl (subst (λ (n : ℕ). i < n) (length-set ws j w) k)
+    go : (i : ℕ) → i < j + 1 → Holds (getD (set ws j w) i 0) (nodes i)
+    go i m = by (eqb i j) refl
       where
-        by : (b : Bool) → eqb i j ≡ b → i < length ws → Holds (getD (set ws j w) i 0) (nodes i)
-        by true q g =
-            let r = eqb-true i j q in
-            rw (r, getD-set-same ws j w 0 (subst (λ (n : ℕ). n < length ws) r g)) h
-        by false q g =
-            let r = eqb-false i j q in
-            rw (getD-set-other ws j i w 0 r) (p .held i (omega arith) g)
-
-pub packing-ends :
-    {j n : ℕ} {nodes : ℕ → Node} {before ws : List ℕ} → Packing j nodes before ws → n ≤ j → Packs n nodes before ws
-packing-ends p l =
-    record { same = p .same; packed = λ m. record { each = λ i h. p .held i (omega arith) (omega (arith, p .same)) } }
+        by : (b : Bool) → eqb i j ≡ b → Holds (getD (set ws j w) i 0) (nodes i)
+        by true q = rw (eqb-true i j q, getD-set-same ws j w 0 l) h
+        by false q = let r = eqb-false i j q in rw (getD-set-other ws j i w 0 r) (p .each i (omega arith))

@@ -1,10 +1,10 @@
 -- A node in one word of 64 bits, as the checks and the machine read it: its kind over its three fields, or a constant's 32 bits
 -- under the kind 0. Assumes nothing.
-use Prim.Native.Nat.{ℕ, _+_, _*_, _/_, _%_, _≤_, _<_}
+use Prim.Native.Nat.{ℕ, _+_, _*_, _/_, _%_, _<_}
 use mathlib.Core.Path.{_≡_}
 use mathlib.Core.List.{List}
 use lib.IntN.{ℤ}
-use lib.ListN.{length, getD}
+use lib.ListN.{getD}
 use Rattle.lambdamix.specs.Script.{Node}
 use Rattle.script.specs.Bytes.{signed32}
 
@@ -37,8 +37,3 @@ pub record Holds (w : ℕ) (d : Node) : Type 0 where
 -- The first n words hold the first n nodes.
 pub record Packed (n : ℕ) (nodes : ℕ → Node) (ws : List ℕ) : Type 0 where
   pub each : (j : ℕ) → j < n → Holds (getD ws j 0) (nodes j)
-
--- what packing promises: all nodes are held, where there are words for them
-pub record Packs (n : ℕ) (nodes : ℕ → Node) (before after : List ℕ) : Type 0 where
-  pub same : length after ≡ length before
-  pub packed : n ≤ length before → Packed n nodes after

@@ -1,13 +1,14 @@
 // Refusals 6, 7 and 8 of nodes in words: each node but the root is used once, no node is higher than 256, and each variable
 // has a binder or is an input. The walks go down from the root, from a node to its children, whose numbers are below. They
-// pass integers and references to arrays of a fixed length and answer in one integer, which all travel in registers; so a
-// node's number and a name are plain u16 in this file.
+// pass integers, a reference to an array and a reference to a slice reference, and answer in one integer, which all travel in
+// registers (a slice reference itself goes through memory); so a node's number and a name are plain u16 in this file.
 use crate::Found;
 use crate::Refusal;
 use crate::Verdict;
 use crate::column::at8;
 use crate::column::put8;
 use crate::kinds::use_of;
+use crate::limits::FEW_NODES;
 use crate::limits::MAX_HEIGHT;
 use crate::limits::MAX_NODES;
 use crate::word::field_a;
@@ -93,7 +94,7 @@ fn count_node(counts: &mut [u8], w: u64)
     }
 }
 
-fn count_nodes(nodes: &[u64; MAX_NODES], counts: &mut [u8], count: u16)
+fn count_nodes(nodes: &[u64], counts: &mut [u8], count: u16)
     ensures { λ r. ⌜ Counted (usesBelow (columnsIn (now (nodes .entry))) count) (now (counts .entry)) (now (counts .exit)) ⌝ }
 {
     let mut i = 0;
@@ -118,10 +119,15 @@ fn first_not_one(counts: &[u8], n: usize) -> Found
 }
 
 // Refusal 6: the first node but the root that is used never or twice.
-fn first_misused(nodes: &[u64; MAX_NODES], count: u16) -> Found
+fn first_misused(nodes: &[u64], count: u16) -> Found
     requires { ⌜ (1 ≤ count) × (count ≤ maxNodes) ⌝ }
     ensures { λ r. ⌜ foundAt r ≡ firstFailing (usedOnceAt (columnsIn (now (nodes .entry))) count) 0 (count - 1) ⌝ }
 {
+    if (count as usize) <= FEW_NODES {
+        let mut counts = [0u8; FEW_NODES];
+        count_nodes(nodes, &mut counts, count);
+        return first_not_one(&counts, (count - 1) as usize);
+    }
     let mut counts = [0u8; MAX_NODES];
     count_nodes(nodes, &mut counts, count);
     first_not_one(&counts, (count - 1) as usize)
@@ -160,15 +166,15 @@ fn tall_over(i: u16, p: u32) -> u32
 }
 
 // The height of node i's tree if no node of it is too high, else HIGHEST + 1 plus the lowest node that is.
-fn tall(nodes: &[u64; MAX_NODES], i: u16) -> u32
-    ensures { λ r. ⌜ Tall r (heightAt (columnsIn (now (nodes .entry))) i) (tooHighAt (columnsIn (now (nodes .entry))) i) ⌝ }
+fn tall(nodes: &&[u64], i: u16) -> u32
+    ensures { λ r. ⌜ Tall r (heightAt (columnsIn (now (now (nodes .entry)))) i) (tooHighAt (columnsIn (now (now (nodes .entry)))) i) ⌝ }
 {
-    let p = tall_children(nodes, i, word_at(nodes, i));
+    let p = tall_children(nodes, i, word_at(*nodes, i));
     tall_over(i, p)
 }
 
-fn tall_children(nodes: &[u64; MAX_NODES], i: u16, w: u64) -> u32
-    ensures { λ r. ⌜ TallOver (columnsIn (now (nodes .entry))) i (wordChildren w) r ⌝ }
+fn tall_children(nodes: &&[u64], i: u16, w: u64) -> u32
+    ensures { λ r. ⌜ TallOver (columnsIn (now (now (nodes .entry)))) i (wordChildren w) r ⌝ }
 {
     match kind(w) {
         2 | 5 | 10 => tall_child(nodes, i, field_a(w)),
@@ -187,8 +193,8 @@ fn tall_children(nodes: &[u64; MAX_NODES], i: u16, w: u64) -> u32
 }
 
 // A child of node i: one whose number is below is walked.
-fn tall_child(nodes: &[u64; MAX_NODES], i: u16, m: u16) -> u32
-    ensures { λ r. ⌜ Tall r (below i 1 (heightAt (columnsIn (now (nodes .entry)))) m) (below i none (tooHighAt (columnsIn (now (nodes .entry)))) m) ⌝ }
+fn tall_child(nodes: &&[u64], i: u16, m: u16) -> u32
+    ensures { λ r. ⌜ Tall r (below i 1 (heightAt (columnsIn (now (now (nodes .entry))))) m) (below i none (tooHighAt (columnsIn (now (now (nodes .entry))))) m) ⌝ }
 {
     if m < i {
         return tall(nodes, m);
@@ -237,18 +243,12 @@ fn unbound_name(names: &[u16; MAX_HEIGHT], depth: usize, inputs: usize, i: u16, 
 }
 
 // The lowest unbound variable of node i's tree, or NOWHERE. A binder's name is put after those around it.
-fn scope(
-    nodes: &[u64; MAX_NODES],
-    inputs: usize,
-    names: &mut [u16; MAX_HEIGHT],
-    depth: usize,
-    i: u16,
-) -> u16
+fn scope(nodes: &&[u64], inputs: usize, names: &mut [u16; MAX_HEIGHT], depth: usize, i: u16) -> u16
     requires { ⌜ (i < 65535) × (maxHeight ≤ length (now names)) ⌝ }
-    requires { ⌜ depth + heightAt (columnsIn (now nodes)) i ≤ maxHeight ⌝ }
-    ensures { λ r. ⌜ Scoped (unboundAt (columnsIn (now (nodes .entry))) inputs i (innermost (now (names .entry)) depth)) depth (now (names .entry)) (now (names .exit)) r ⌝ }
+    requires { ⌜ depth + heightAt (columnsIn (now (now nodes))) i ≤ maxHeight ⌝ }
+    ensures { λ r. ⌜ Scoped (unboundAt (columnsIn (now (now (nodes .entry)))) inputs i (innermost (now (names .entry)) depth)) depth (now (names .entry)) (now (names .exit)) r ⌝ }
 {
-    let w = word_at(nodes, i);
+    let w = word_at(*nodes, i);
     match kind(w) {
         1 => unbound_name(names, depth, inputs, i, field_a(w)),
         2 | 5 | 10 => scope_child(nodes, inputs, names, depth, i, field_a(w)),
@@ -273,7 +273,7 @@ fn scope(
 
 // A child of node i: one whose number is below is walked.
 fn scope_child(
-    nodes: &[u64; MAX_NODES],
+    nodes: &&[u64],
     inputs: usize,
     names: &mut [u16; MAX_HEIGHT],
     depth: usize,
@@ -281,8 +281,8 @@ fn scope_child(
     m: u16,
 ) -> u16
     requires { ⌜ (i < 65535) × (maxHeight ≤ length (now names)) ⌝ }
-    requires { ⌜ depth + below i 1 (heightAt (columnsIn (now nodes))) m ≤ maxHeight ⌝ }
-    ensures { λ r. ⌜ Scoped (below i (λ xs. none) (unboundAt (columnsIn (now (nodes .entry))) inputs) m (innermost (now (names .entry)) depth)) depth (now (names .entry)) (now (names .exit)) r ⌝ }
+    requires { ⌜ depth + below i 1 (heightAt (columnsIn (now (now nodes)))) m ≤ maxHeight ⌝ }
+    ensures { λ r. ⌜ Scoped (below i (λ xs. none) (unboundAt (columnsIn (now (now (nodes .entry)))) inputs) m (innermost (now (names .entry)) depth)) depth (now (names .entry)) (now (names .exit)) r ⌝ }
 {
     if m < i {
         return scope(nodes, inputs, names, depth, m);
@@ -291,12 +291,12 @@ fn scope_child(
 }
 
 // Refusal 8, after 7.
-fn scope_refusal(nodes: &[u64; MAX_NODES], inputs: usize, root: u16) -> Verdict
+fn scope_refusal(nodes: &[u64], inputs: usize, root: u16) -> Verdict
     requires { ⌜ (root < 65535) × (heightAt (columnsIn (now nodes)) root ≤ maxHeight) ⌝ }
     ensures { λ r. ⌜ refusalOf r ≡ refusedAt 8 (unboundAt (columnsIn (now (nodes .entry))) inputs root []) ⌝ }
 {
     let mut names = [0u16; MAX_HEIGHT];
-    let place = scope(nodes, inputs, &mut names, 0, root);
+    let place = scope(&nodes, inputs, &mut names, 0, root);
     if place == NOWHERE {
         return Verdict::Passed;
     }
@@ -307,11 +307,11 @@ fn scope_refusal(nodes: &[u64; MAX_NODES], inputs: usize, root: u16) -> Verdict
 }
 
 // Refusals 7 and 8, after 6.
-fn tree_refusal(nodes: &[u64; MAX_NODES], inputs: usize, root: u16) -> Verdict
+fn tree_refusal(nodes: &[u64], inputs: usize, root: u16) -> Verdict
     requires { ⌜ root < 65535 ⌝ }
     ensures { λ r. ⌜ refusalOf r ≡ orElse (refusedAt 7 (tooHighAt (columnsIn (now (nodes .entry))) root)) (refusedAt 8 (unboundAt (columnsIn (now (nodes .entry))) inputs root [])) ⌝ }
 {
-    let height = tall(nodes, root);
+    let height = tall(&nodes, root);
     if height <= HIGHEST {
         return scope_refusal(nodes, inputs, root);
     }
@@ -322,7 +322,7 @@ fn tree_refusal(nodes: &[u64; MAX_NODES], inputs: usize, root: u16) -> Verdict
 }
 
 // Refusals 6, 7 and 8 of as many nodes, each of which fits; what it answers of other words says nothing.
-pub fn structure_refusal(nodes: &[u64; MAX_NODES], inputs: usize, count: usize) -> Verdict
+pub fn structure_refusal(nodes: &[u64], inputs: usize, count: usize) -> Verdict
     ensures { λ r. ⌜ Structured (now (nodes .entry)) inputs count r ⌝ }
 {
     if count < 1 {

@@ -1,13 +1,9 @@
 // A node in one word of 64 bits: packing and unpacking. What the code of a run is made of stands in words alike.
-use crate::column::at8;
-use crate::column::at16;
-use crate::column::at32;
-use crate::column::put64;
 ghost use mathlib.Core.Path.{_≡_};
 ghost use lib.ListN.{getD};
 ghost use Rattle.script.specs.Bytes.{signed32, bits32};
-ghost use Rattle.script.specs.Words.{word, wordKind, wordA, wordB, wordC, wordValue, Holds, Packs};
-ghost use Rattle.script.specs.Columns.{nodeOf, nodesIn};
+ghost use Rattle.script.specs.Words.{word, wordKind, wordA, wordB, wordC, wordValue, Holds};
+ghost use Rattle.script.specs.Columns.{nodeOf};
 
 // The bits of a signed number, and back.
 pub fn bits(z: i32) -> u32
@@ -77,40 +73,12 @@ pub fn word_at(s: &[u64], i: u16) -> u64
     0
 }
 
-fn pack_node(k: u8, a: u16, b: u16, c: u16, v: i32) -> u64
+// The word that holds a node.
+pub fn pack_node(k: u8, a: u16, b: u16, c: u16, v: i32) -> u64
     ensures { λ r. ⌜ Holds r (nodeOf k a b c v) ⌝ }
 {
     if k == 0 {
         return bits(v) as u64;
     }
     word(k, a, b, c)
-}
-
-// The word of node j of the columns.
-fn pack_row(kinds: &[u8], a: &[u16], b: &[u16], c: &[u16], values: &[i32], j: usize) -> u64
-    ensures { λ r. ⌜ Holds r (nodesIn (now (kinds .entry)) (now (a .entry)) (now (b .entry)) (now (c .entry)) (now (values .entry)) j) ⌝ }
-{
-    let k = at8(kinds, j);
-    let v = at32(values, j);
-    pack_node(k, at16(a, j), at16(b, j), at16(c, j), v)
-}
-
-// The words of the first n nodes of the columns. They are packed once for all walks of a call: a walk then passes one reference.
-pub fn pack(
-    kinds: &[u8],
-    a: &[u16],
-    b: &[u16],
-    c: &[u16],
-    values: &[i32],
-    n: usize,
-    words: &mut [u64],
-)
-    ensures { λ r. ⌜ Packs n (nodesIn (now (kinds .entry)) (now (a .entry)) (now (b .entry)) (now (c .entry)) (now (values .entry))) (now (words .entry)) (now (words .exit)) ⌝ }
-{
-    let mut j = 0;
-    while j < n {
-        let w = pack_row(kinds, a, b, c, values, j);
-        put64(words, j, w);
-        j += 1;
-    }
 }

@@ -44,13 +44,12 @@ pub extern "C" fn scriptmaker_make(
     values: &[i32],
     settings: &[i32],
     fuel: u32,
-    cells: &mut [u32],
-    words: &mut [u64],
+    heap: &mut [u64],
     codes: &mut [u64],
     out: &mut [u8],
 ) -> MakeReply
     ensures { λ r. ⌜ Makes false n (tablesOf (now (parameters .entry)) (now (results .entry)) (now (inputs .entry)) (now (kinds .entry)) (now (a .entry)) (now (b .entry)) (now (c .entry)) (now (values .entry)))
-        (now (settings .entry)) fuel (stores (now (cells .entry)) (now (words .entry)) (now (codes .entry))) (stores (now (cells .exit)) (now (words .exit)) (now (codes .exit))) (now (out .entry)) (now (out .exit)) r ⌝ }
+        (now (settings .entry)) fuel (stores (now (heap .entry)) (now (codes .entry))) (stores (now (heap .exit)) (now (codes .exit))) (now (out .entry)) (now (out .exit)) r ⌝ }
 {
     reply(make(
         counted(n),
@@ -64,8 +63,7 @@ pub extern "C" fn scriptmaker_make(
         values,
         settings,
         fuel,
-        cells,
-        words,
+        heap,
         codes,
         out,
     ))
@@ -85,13 +83,12 @@ pub extern "C" fn scriptmaker_bare_run(
     values: &[i32],
     settings: &[i32],
     fuel: u32,
-    cells: &mut [u32],
-    words: &mut [u64],
+    heap: &mut [u64],
     codes: &mut [u64],
     out: &mut [u8],
 ) -> MakeReply
     ensures { λ r. ⌜ Makes true n (tablesOf (now (parameters .entry)) (now (results .entry)) (now (inputs .entry)) (now (kinds .entry)) (now (a .entry)) (now (b .entry)) (now (c .entry)) (now (values .entry)))
-        (now (settings .entry)) fuel (stores (now (cells .entry)) (now (words .entry)) (now (codes .entry))) (stores (now (cells .exit)) (now (words .exit)) (now (codes .exit))) (now (out .entry)) (now (out .exit)) r ⌝ }
+        (now (settings .entry)) fuel (stores (now (heap .entry)) (now (codes .entry))) (stores (now (heap .exit)) (now (codes .exit))) (now (out .entry)) (now (out .exit)) r ⌝ }
 {
     reply(bare_run(
         counted(n),
@@ -105,8 +102,7 @@ pub extern "C" fn scriptmaker_bare_run(
         values,
         settings,
         fuel,
-        cells,
-        words,
+        heap,
         codes,
         out,
     ))

@@ -1,6 +1,6 @@
 -- Written nodes, one piece behind the other, and the node over them: what the code puts for a cell is its tree's nodes. Assumes
 -- nothing.
-use Prim.Native.Nat.{ℕ, suc, _+_, _*_, _<_}
+use Prim.Native.Nat.{ℕ, suc, _+_, _*_, _≤_, _<_}
 use mathlib.Core.Path.{_≡_, refl, sym, ap, ap₂, _∙_}
 use mathlib.Core.Logic.{_⊎_, inl, inr}
 use mathlib.Core.List.{List, [], _∷_, _++_, append-nil}
@@ -15,13 +15,13 @@ use Rattle.lambdamix.specs.Code.{Code, Codes, lit, ref, fn, form, nilC, consC, 
 use Rattle.lambdamix.proofs.WrittenTree.{top-last, after-last}
 use Rattle.script.specs.File.{nodeBytes, records}
 use Rattle.script.specs.Words.{wordKind, wordC}
-use Rattle.file.specs.Written.{Put}
+use Rattle.file.specs.Written.{Put, PutWhole}
 use Rattle.file.proofs.RecordLaws.{records-length}
-use Rattle.file.proofs.Layouts.{nodeLayout}
-use Rattle.file.proofs.WritingLaws.{put-both, put-same, records-append}
+use Rattle.file.proofs.Layouts.{nodeLayout, node-sized}
+use Rattle.file.proofs.WritingLaws.{put-there, put-both, put-length, put-same, records-append}
 use Rattle.specializer.specs.Cells.{twoPieces, threePieces, codeAt, codeBelow}
 use Rattle.specializer.specs.Answers.{Emits, EmitsOver, lastField, twoNode, threeNode}
-use Rattle.specializer.proofs.CellLaws.{is-pair, is-operation, is-triple}
+use Rattle.specializer.proofs.CellLaws.{Cell, is-pair, is-operation, is-triple}
 
 -- ---- bytes
 
@@ -41,17 +41,24 @@ records-last ns nd = rw (records-append nodeBytes ns (nd ∷ []), one-record nd)
 
 -- ---- constants
 
+-- a node with room for it, here and behind nodes that were put
+put-node : {l m : List ℕ} {i : ℕ} (nd : Node) → i + 13 ≤ length l → PutWhole l i (nodeBytes nd) m → Put l i (nodeBytes nd) m
+put-node nd h p = put-there (node-sized nd) h p
+
 pub emits-lit :
-    (base k : ℕ) (z : ℤ) {l m m′ : List ℕ} → k + 1 < 4096 → Put l (base + 13 * k) (nodeBytes (node 0 0 0 0 z)) m →
-    Put m (base + 13 * (k + 1)) (nodeBytes (node 2 k 0 0 (pos 0))) m′ → Emits (lit z) base k l m′ (k + 1)
+    (base k : ℕ) (z : ℤ) {l m m′ : List ℕ} → k + 1 < 4096 → PutWhole l (base + 13 * k) (nodeBytes (node 0 0 0 0 z)) m →
+    PutWhole m (base + 13 * (k + 1)) (nodeBytes (node 2 k 0 0 (pos 0))) m′ → Emits (lit z) base k l m′ (k + 1)
 unfolding top nodesFrom
 emits-lit base k z h p q =
     record {
       number = add-one k;
       low = h;
       put =
+          λ f.
+          let a = put-node (node 0 0 0 0 z) (omega arith) p in
           put-same (records-last (node 0 0 0 0 z ∷ []) (node 2 k 0 0 (pos 0)))
-          (put-nodes base k (node 0 0 0 0 z ∷ []) (put-same (sym (one-record (node 0 0 0 0 z))) p) (omega arith) q);
+          (put-nodes base k (node 0 0 0 0 z ∷ []) (put-same (sym (one-record (node 0 0 0 0 z))) a) (omega arith)
+          (put-node (node 2 k 0 0 (pos 0)) (omega (arith, put-length a)) q));
     }
 
 module _ {c : Code} {z : ℤ} (e : c ≡ lit z) where
@@ -68,11 +75,11 @@ module _ {c : Code} {z : ℤ} (e : c ≡ lit z) where
 pub record EmitsAll (cs : Codes) (base k : ℕ) (before after′ : List ℕ) (n : ℕ) (is : List ℕ) : Type 0 where
   pub next : n ≡ after k cs
   pub lasts : is ≡ tops k cs
-  pub put : Put before (base + 13 * k) (records nodeBytes (allNodesFrom k cs)) after′
+  pub put : base + 13 * n ≤ length before → Put before (base + 13 * k) (records nodeBytes (allNodesFrom k cs)) after′
 
 pub emits-none : {base k : ℕ} {l : List ℕ} → EmitsAll nilC base k l l k []
 unfolding top tops nodesFrom records
-emits-none = record { next = refl; lasts = refl; put = record { puts = refl } }
+emits-none = record { next = refl; lasts = refl; put = λ f. record { puts = refl } }
 
 pub emits-more :
     (self : ℕ → Code) {q i : ℕ} {cs : Codes} {base k r n : ℕ} {l m m′ is : List ℕ} → q ≡ i → Emits (self q) base k l m r →
@@ -86,10 +93,12 @@ emits-more self {q} {cs = cs} {base} {k} {r} e a s =
       next = s .next ∙ ap (λ (j : ℕ). after j cs) step;
       lasts = ap₂ _∷_ (a .number) (s .lasts ∙ ap (λ (j : ℕ). tops j cs) step);
       put =
+          λ f.
+          let p = a .put (omega (arith, s .next, after-last cs (r + 1))) in
           put-same
           (ap (λ (j : ℕ). records nodeBytes (nodesFrom k c) ++ records nodeBytes (allNodesFrom j cs)) step
           ∙ sym (records-append nodeBytes (nodesFrom k c) (allNodesFrom (suc (top k c)) cs)))
-          (put-nodes base k (nodesFrom k c) (a .put) (step ∙ top-last c k) (s .put));
+          (put-nodes base k (nodesFrom k c) p (step ∙ top-last c k) (s .put (omega (arith, put-length p))));
     })
 
 -- where the last node's number is low, so are the pieces'
@@ -106,15 +115,17 @@ module _ (self : ℕ → Code) (k : ℕ) {q i : ℕ} (cs : Codes) (e : q ≡ i) 
 
 pub emits-over :
     {cs : Codes} {over : List ℕ → Node} {base k n : ℕ} {l m m′ is : List ℕ} → EmitsAll cs base k l m n is →
-    Put m (base + 13 * n) (nodeBytes (over is)) m′ → EmitsOver cs over base k l m′ n
-emits-over {cs} {over} {base} {k} s p =
+    PutWhole m (base + 13 * n) (nodeBytes (over is)) m′ → EmitsOver cs over base k l m′ n
+emits-over {cs} {over} {base} {k} {is = is} s p =
     record {
       number = s .next;
       put =
+          λ f.
+          let q = s .put (omega arith) in
           put-same
           (ap (λ (is : List ℕ). records nodeBytes (allNodesFrom k cs) ++ nodeBytes (over is)) (s .lasts)
           ∙ records-last (allNodesFrom k cs) (over (tops k cs)))
-          (put-nodes base k (allNodesFrom k cs) (s .put) (s .next ∙ after-last cs k) p);
+          (put-nodes base k (allNodesFrom k cs) q (s .next ∙ after-last cs k) (put-node (over is) (omega (arith, put-length q)) p));
     }
 
 -- code is written as these pieces and this node over them
@@ -129,7 +140,7 @@ module _ {c : Code} {cs : Codes} {over : List ℕ → Node} (o : Over c cs over)
       record {
         number = e;
         low = omega (arith, e);
-        put = put-same (ap (records nodeBytes) (sym (o .nodes k))) (s .put);
+        put = λ f. put-same (ap (records nodeBytes) (sym (o .nodes k))) (s .put f);
       }
 
   pub over-low : (k : ℕ) → top k c < 4096 → after k cs < 4096
@@ -157,19 +168,19 @@ pub over-single :
 unfolding formNode
 over-single self e = over-form e (λ is. refl)
 
-module _ (xs : List ℕ) (p : ℕ) {x k : ℕ} (e : x ≡ getD xs p 0) (f : k ≡ wordKind x) where
+module _ {xs : List ℕ} {p x k : ℕ} (s : Cell xs p x k) where
   pub over-two : (k ≡ 9) ⊎ (k ≡ 12) → Over (codeAt xs p) (twoPieces (codeBelow xs p) x) (twoNode x)
   unfolding formNode twoNode lastField
-  over-two (inl g) = over-form (is-pair xs p e f g) (λ is. rw (← f, g))
-  over-two (inr g) = over-form (is-operation xs p e f g) (λ is. rw (← f, g))
+  over-two (inl g) = over-form (is-pair s g .code) (λ is. rw (← s .kind, g))
+  over-two (inr g) = over-form (is-operation s g .code) (λ is. rw (← s .kind, g))
 
   pub over-three : k ≡ 11 → Over (codeAt xs p) (threePieces (codeBelow xs p) x) threeNode
   unfolding formNode threeNode
-  over-three g = over-form (is-triple xs p e f g) (λ is. refl)
+  over-three g = over-form (is-triple s g .code) (λ is. refl)
 
 -- the fields of the node over two pieces
 pub put-two :
     {k f r i : ℕ} {m m′ : List ℕ} (x a b : ℕ) → k ≡ wordKind x → f ≡ wordC x → r ≡ lastField (eqb k 12) f →
-    Put m i (nodeBytes (node k a b r (pos 0))) m′ → Put m i (nodeBytes (twoNode x (a ∷ b ∷ []))) m′
+    PutWhole m i (nodeBytes (node k a b r (pos 0))) m′ → PutWhole m i (nodeBytes (twoNode x (a ∷ b ∷ []))) m′
 unfolding twoNode
 put-two x a b e f g p = rw (← e, ← f, ← g) p

@@ -35,6 +35,9 @@ nodes-count : (c : Code) → length (nodesFrom 0 c) ≡ size c
 unfolding nodeCount written
 nodes-count c = written-size (record { types = []; inputs = []; nodes = [] }) c
 
+pub top-count : {n r : ℕ} (c : Code) → n ≡ size c → r ≡ top 0 c → r + 1 ≡ n
+top-count c e f = omega (arith, top-last c 0, nodes-count c)
+
 -- the last node's number is below the count of nodes
 pub top-low : {n : ℕ} (c : Code) → n ≡ size c → n ≤ 4096 → top 0 c < 4096
 top-low c e h = omega (arith, top-last c 0, nodes-count c)

@@ -3,7 +3,6 @@
 // call.
 use crate::Finish;
 use crate::code;
-use crate::limits::MAX_HEIGHT;
 use crate::limits::MAX_NODES;
 use crate::size;
 use file::writer;
@@ -13,12 +12,13 @@ use script::word;
 ghost use Prim.Native.Nat.{ℕ, _+_, _*_, _<_, _≤_};
 ghost use mathlib.Core.Path.{_≡_};
 ghost use mathlib.Core.Bool.{true};
+ghost use lib.ListN.{length, getD};
 ghost use Rattle.lambdamix.specs.Script.{Script};
 ghost use Rattle.lambdamix.specs.Code.{lit, node, size, fits, top, after, written};
 ghost use Rattle.lambdamix.specs.Specializing.{finished};
 ghost use Rattle.script.specs.File.{nodeBytes, numbered, fileBytes};
 ghost use Rattle.script.specs.Words.{wordKind};
-ghost use Rattle.file.specs.Written.{Put, inputRow};
+ghost use Rattle.file.specs.Written.{Put, PutWhole, inputRow};
 ghost use Rattle.specializer.specs.Cells.{twoPieces, threePieces, codeAt, codeBelow};
 ghost use Rattle.specializer.specs.Making.{afterRun};
 ghost use Rattle.specializer.specs.Answers.{Emits, EmitsOver, twoNode, threeNode, outcome};
@@ -27,15 +27,15 @@ ghost use Rattle.specializer.specs.Answers.{Emits, EmitsOver, twoNode, t
 const ALL_NODES: u16 = MAX_NODES + 1;
 
 // One node as number k, where node 0 stands at base.
-fn emit_node(out: &mut [u8], base: usize, k: u16, kind: u8, a: u16, b: u16, c: u16, z: i32)
+fn emit_node(out: &mut [u8], base: u32, k: u16, kind: u8, a: u16, b: u16, c: u16, z: i32)
     requires { ⌜ base < 1000000 ⌝ }
-    ensures { λ r. ⌜ Put (now (out .entry)) (base + 13 * k) (nodeBytes (node kind a b c z)) (now (out .exit)) ⌝ }
+    ensures { λ r. ⌜ PutWhole (now (out .entry)) (base + 13 * k) (nodeBytes (node kind a b c z)) (now (out .exit)) ⌝ }
 {
-    writer::node_at(out, base + 13 * (k as usize), kind, a, b, c, z)
+    writer::node_at(out, base + 13 * (k as u32), kind, a, b, c, z)
 }
 
 // A constant node and its lift; the answer is the number of the last node, here and below.
-fn emit_constant(out: &mut [u8], base: usize, k: u16, z: i32) -> u16
+fn emit_constant(out: &mut [u8], base: u32, k: u16, z: i32) -> u16
     requires { ⌜ (base < 1000000) × (k + 1 < 4096) ⌝ }
     ensures { λ r. ⌜ Emits (lit z) base k (now (out .entry)) (now (out .exit)) r ⌝ }
 {
@@ -44,12 +44,11 @@ fn emit_constant(out: &mut [u8], base: usize, k: u16, z: i32) -> u16
     k + 1
 }
 
-// The code at p as nodes from number k on.
-fn emit(codes: &[u64], p: u16, out: &mut [u8], base: usize, k: u16) -> u16
-    requires { ⌜ (base < 1000000) × (top k (codeAt (now codes) p) < 4096) ⌝ }
+// The code of the cell x at p as nodes from number k on.
+fn emit(codes: &[u64], p: u16, x: u64, out: &mut [u8], base: u32, k: u16) -> u16
+    requires { ⌜ ((base < 1000000) × (top k (codeAt (now codes) p) < 4096)) × ((p ≤ length (now codes)) × (x ≡ getD (now codes) p 0)) ⌝ }
     ensures { λ r. ⌜ Emits (codeAt (now (codes .entry)) p) base k (now (out .entry)) (now (out .exit)) r ⌝ }
 {
-    let x = word::word_at(codes, p);
     match word::kind(x) {
         1 => {
             emit_node(out, base, k, 1, word::field_a(x), 0, 0, 0);
@@ -72,8 +71,8 @@ fn emit(codes: &[u64], p: u16, out: &mut [u8], base: usize, k: u16) -> u16
 }
 
 // Two pieces of the cell x at p, and the node over them.
-fn emit_two(codes: &[u64], p: u16, x: u64, out: &mut [u8], base: usize, k: u16) -> u16
-    requires { ⌜ (base < 1000000) × ((wordKind x < 256) × (after k (twoPieces (codeBelow (now codes) p) x) < 4096)) ⌝ }
+fn emit_two(codes: &[u64], p: u16, x: u64, out: &mut [u8], base: u32, k: u16) -> u16
+    requires { ⌜ ((base < 1000000) × (after k (twoPieces (codeBelow (now codes) p) x) < 4096)) × ((p ≤ length (now codes)) × (wordKind x < 256)) ⌝ }
     ensures { λ r. ⌜ EmitsOver (twoPieces (codeBelow (now (codes .entry)) p) x) (twoNode x) base k (now (out .entry)) (now (out .exit)) r ⌝ }
 {
     let a = emit_piece(codes, p, word::field_a(x), out, base, k);
@@ -85,8 +84,8 @@ fn emit_two(codes: &[u64], p: u16, x: u64, out: &mut [u8], base: usize, k: u16) 
 }
 
 // Three pieces, and the if over them.
-fn emit_three(codes: &[u64], p: u16, x: u64, out: &mut [u8], base: usize, k: u16) -> u16
-    requires { ⌜ (base < 1000000) × (after k (threePieces (codeBelow (now codes) p) x) < 4096) ⌝ }
+fn emit_three(codes: &[u64], p: u16, x: u64, out: &mut [u8], base: u32, k: u16) -> u16
+    requires { ⌜ ((base < 1000000) × (after k (threePieces (codeBelow (now codes) p) x) < 4096)) × (p ≤ length (now codes)) ⌝ }
     ensures { λ r. ⌜ EmitsOver (threePieces (codeBelow (now (codes .entry)) p) x) threeNode base k (now (out .entry)) (now (out .exit)) r ⌝ }
 {
     let a = emit_piece(codes, p, word::field_a(x), out, base, k);
@@ -96,20 +95,37 @@ fn emit_three(codes: &[u64], p: u16, x: u64, out: &mut [u8], base: usize, k: u16
     c + 1
 }
 
-// The code at q if that is below p; else a constant.
-fn emit_piece(codes: &[u64], p: u16, q: u16, out: &mut [u8], base: usize, k: u16) -> u16
-    requires { ⌜ (base < 1000000) × (top k (codeBelow (now codes) p q) < 4096) ⌝ }
+// The code at q if that is below p; else a constant. A variable is written without a call.
+fn emit_piece(codes: &[u64], p: u16, q: u16, out: &mut [u8], base: u32, k: u16) -> u16
+    requires { ⌜ ((base < 1000000) × (top k (codeBelow (now codes) p q) < 4096)) × (p ≤ length (now codes)) ⌝ }
     ensures { λ r. ⌜ Emits (codeBelow (now (codes .entry)) p q) base k (now (out .entry)) (now (out .exit)) r ⌝ }
 {
     if p <= q {
         return emit_constant(out, base, k, 0);
     }
-    emit(codes, q, out, base, k)
+    let x = codes[q as usize];
+    if word::kind(x) == 1 {
+        emit_node(out, base, k, 1, word::field_a(x), 0, 0, 0);
+        return k;
+    }
+    emit(codes, q, x, out, base, k)
+}
+
+// The code at p as nodes from number 0 on; past the end stands a constant.
+fn emit_root(codes: &[u64], p: u16, out: &mut [u8], base: u32) -> u16
+    requires { ⌜ (base < 1000000) × (top 0 (codeAt (now codes) p) < 4096) ⌝ }
+    ensures { λ r. ⌜ Emits (codeAt (now (codes .entry)) p) base 0 (now (out .entry)) (now (out .exit)) r ⌝ }
+{
+    let i = p as usize;
+    if codes.len() <= i {
+        return emit_constant(out, base, 0, 0);
+    }
+    emit(codes, p, codes[i], out, base, 0)
 }
 
 // The file of the code at p: head, inputs, nodes.
 fn write_code(codes: &[u64], p: u16, inputs: &[u16], count: u16, nodes: u16, out: &mut [u8])
-    requires { ⌜ (nodes ≡ size (codeAt (now codes) p)) × (nodes ≤ 4096) ⌝ }
+    requires { ⌜ ((nodes ≡ size (codeAt (now codes) p)) × (nodes ≤ 4096)) × (8 + 4 * count + 13 * nodes ≤ length (now out)) ⌝ }
     ensures { λ r. ⌜ ((s : Script) → s .inputs ≡ numbered (inputRow (now (inputs .entry))) 0 count → Put (now (out .entry)) 0 (fileBytes (written s (codeAt (now (codes .entry)) p))) (now (out .exit))) ⌝ }
 {
     let n = Counts {
@@ -119,7 +135,7 @@ fn write_code(codes: &[u64], p: u16, inputs: &[u16], count: u16, nodes: u16, out
     };
     writer::head_at(out, 0, n);
     writer::inputs_at(out, n, inputs);
-    emit(codes, p, out, 8 + 4 * (count as usize), 0);
+    emit_root(codes, p, out, 8 + 4 * (count as u32));
 }
 
 // Code that fits a file: 21 [0] where the output is shorter than the file.
@@ -149,7 +165,7 @@ fn finish_file(
 pub fn finish(codes: &[u64], p: u16, inputs: &[u16], count: u16, out: &mut [u8]) -> Finish
     ensures { λ r. ⌜ ((s : Script) (k : ℕ) → s .inputs ≡ numbered (inputRow (now (inputs .entry))) 0 count → outcome r k (now (out .exit)) ≡ afterRun s (finished (codeAt (now (codes .entry)) p) k) (now (out .entry))) ⌝ }
 {
-    let room = size::spend(codes, p, ALL_NODES, MAX_HEIGHT);
+    let room = size::spend(codes, p);
     if room == 0 {
         return Finish::Refused(Refusal {
             number: 26,

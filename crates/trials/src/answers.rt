@@ -23,8 +23,7 @@ fn answered(input: &[u8], out: &mut [u8]) -> Response {
     let mut c = [0u16; 4096];
     let mut values = [0i32; 4096];
     let mut settings = [0i32; 17];
-    let mut cells = [0u32; 4016];
-    let mut words = [0u64; 4016];
+    let mut heap = [0u64; 4016];
     let mut codes = [0u64; 8016];
     let mut file = [0u8; 65536];
     respond(
@@ -38,8 +37,7 @@ fn answered(input: &[u8], out: &mut [u8]) -> Response {
         &mut c,
         &mut values,
         &mut settings,
-        &mut cells,
-        &mut words,
+        &mut heap,
         &mut codes,
         &mut file,
         out,

@@ -1,6 +1,6 @@
 // A call of the maker: number, place and steps of its reply; of made code the count of its nodes and a sum over the bytes of its file.
-// The record tells whether the run is bare, the fuel, how many places of the stores and of the output are lent, the settings, and the
-// script file.
+// The record tells whether the run is bare, the fuel, how many places of the heap, of the code store and of the output are lent, the
+// settings, and the script file.
 use crate::print;
 use file::bytes;
 use script::Counts;
@@ -87,8 +87,7 @@ fn make(
     values: &[i32],
     settings: &[i32],
     fuel: u32,
-    cells: &mut [u32],
-    words: &mut [u64],
+    heap: &mut [u64],
     codes: &mut [u64],
     out: &mut [u8],
 ) -> Reply {
@@ -105,8 +104,7 @@ fn make(
             values,
             settings,
             fuel,
-            cells,
-            words,
+            heap,
             codes,
             out,
         );
@@ -123,8 +121,7 @@ fn make(
         values,
         settings,
         fuel,
-        cells,
-        words,
+        heap,
         codes,
         out,
     )
@@ -145,8 +142,7 @@ fn make_lent(
     settings: &[i32],
     out: &mut [u8],
 ) -> Reply {
-    let mut cells = [0u32; 16016];
-    let mut words = [0u64; 16016];
+    let mut heap = [0u64; 16016];
     let mut codes = [0u64; 32016];
     let bare = column::at8(record, 0) == 1;
     let store = lent(record, 5, 16016);
@@ -165,8 +161,7 @@ fn make_lent(
         values,
         settings,
         word32(record, 1),
-        &mut cells[first..store],
-        &mut words[first..store],
+        &mut heap[first..store],
         &mut codes[first..code],
         out,
     )

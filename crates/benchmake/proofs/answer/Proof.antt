@@ -6,16 +6,15 @@ use Rattle.benchmake.proofs.answer.Statement.{statement}
 use Rattle.benchmake.proofs.answer.Tie as tie
 
 returns : tie.Need-returns
-returns c = whole-answer (c .before .before .before .before .before .before .before .before .before .before .before .before .before .before .before .before .before .before .respond .ensures) refl refl refl refl refl refl refl refl refl refl refl refl refl (c .before .before .before .before .before .before .before .before .before .before .before .before .before .before .before .before .before .before .before .before .before .before .before .before .before .before .before .before .before .before .before .before .before .before .before .pre) (c .before .n .given .1)
+returns c = whole-answer (c .before .before .before .before .before .before .before .before .before .before .before .before .before .before .before .before .before .respond .ensures) refl refl refl refl refl refl refl refl refl refl refl refl (c .before .before .before .before .before .before .before .before .before .before .before .before .before .before .before .before .before .before .before .before .before .before .before .before .before .before .before .before .before .before .before .before .before .pre) (c .before .n .given .1)
 
 returns-2 : tie.Need-returns-2
-returns-2 c = never-short (c .before .before .before .before .before .before .before .before .before .before .before .before .before .before .before .before .before .respond .ensures) refl refl refl refl refl refl refl refl refl refl refl refl refl (c .before .before .before .before .before .before .before .before .before .before .before .before .before .before .before .before .before .before .before .before .before .before .before .before .before .before .before .before .before .before .before .before .before .before .pre) (c .enum-told .given .1)
+returns-2 c = never-short (c .before .before .before .before .before .before .before .before .before .before .before .before .before .before .before .before .respond .ensures) refl refl refl refl refl refl refl refl refl refl refl refl (c .before .before .before .before .before .before .before .before .before .before .before .before .before .before .before .before .before .before .before .before .before .before .before .before .before .before .before .before .before .before .before .before .pre) (c .enum-told .given .1)
 
 pub answer-spec : {M : Type 1} → statement M
 answer-spec =
     tie.close
     (tie.spec
-    (λ c. search needs)
     (λ c. search needs)
     (λ c. search needs)
     (λ c. search needs)

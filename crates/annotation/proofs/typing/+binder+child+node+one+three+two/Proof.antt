@@ -42,59 +42,59 @@ use Rattle.script.proofs.word.word_at.Reads as word-at-reads
 use Rattle.annotation.proofs.typing.+binder+child+node+one+three+two.{statement}
 use Rattle.annotation.proofs.typing.+binder+child+node+one+three+two.Tie.{close}
 
-abbrev μ-binder : Measures 3 binder-kinds.ps ℕ
+abbrev μ-binder : Measures 4 binder-kinds.ps ℕ
 μ-binder κs a = 3 * a .1 .1 .1 .1 .0 + 1
 
-abbrev μ-child : Measures 3 child-kinds.ps ℕ
+abbrev μ-child : Measures 4 child-kinds.ps ℕ
 μ-child κs a = 3 * a .1 .1 .1 .1 .0
 
-abbrev μ-node : Measures 3 node-kinds.ps ℕ
+abbrev μ-node : Measures 4 node-kinds.ps ℕ
 μ-node κs a = 3 * a .1 .1 .1 .1 .0 + 2
 
-abbrev μ-one : Measures 3 one-kinds.ps ℕ
+abbrev μ-one : Measures 4 one-kinds.ps ℕ
 μ-one κs a = 3 * a .1 .1 .1 .1 .0 + 1
 
-abbrev μ-three : Measures 3 three-kinds.ps ℕ
+abbrev μ-three : Measures 4 three-kinds.ps ℕ
 μ-three κs a = 3 * a .1 .1 .1 .1 .0 + 1
 
-abbrev μ-two : Measures 3 two-kinds.ps ℕ
+abbrev μ-two : Measures 4 two-kinds.ps ℕ
 μ-two κs a = 3 * a .1 .1 .1 .1 .0 + 1
 
-abbrev binder-at : ℕ → In 3 binder-kinds.ps
-binder-at t = and 3 binder-kinds.ps (is 3 binder-kinds.ps μ-binder t) binder.Pre
+abbrev binder-at : ℕ → In 4 binder-kinds.ps
+binder-at t = and 4 binder-kinds.ps (is 4 binder-kinds.ps μ-binder t) binder.Pre
 
-abbrev binder-below : ℕ → In 3 binder-kinds.ps
-binder-below t = and 3 binder-kinds.ps (falls 3 binder-kinds.ps _<_ μ-binder t) binder.Pre
+abbrev binder-below : ℕ → In 4 binder-kinds.ps
+binder-below t = and 4 binder-kinds.ps (falls 4 binder-kinds.ps _<_ μ-binder t) binder.Pre
 
-abbrev child-at : ℕ → In 3 child-kinds.ps
-child-at t = and 3 child-kinds.ps (is 3 child-kinds.ps μ-child t) child.Pre
+abbrev child-at : ℕ → In 4 child-kinds.ps
+child-at t = and 4 child-kinds.ps (is 4 child-kinds.ps μ-child t) child.Pre
 
-abbrev child-below : ℕ → In 3 child-kinds.ps
-child-below t = and 3 child-kinds.ps (falls 3 child-kinds.ps _<_ μ-child t) child.Pre
+abbrev child-below : ℕ → In 4 child-kinds.ps
+child-below t = and 4 child-kinds.ps (falls 4 child-kinds.ps _<_ μ-child t) child.Pre
 
-abbrev node-at : ℕ → In 3 node-kinds.ps
-node-at t = and 3 node-kinds.ps (is 3 node-kinds.ps μ-node t) node.Pre
+abbrev node-at : ℕ → In 4 node-kinds.ps
+node-at t = and 4 node-kinds.ps (is 4 node-kinds.ps μ-node t) node.Pre
 
-abbrev node-below : ℕ → In 3 node-kinds.ps
-node-below t = and 3 node-kinds.ps (falls 3 node-kinds.ps _<_ μ-node t) node.Pre
+abbrev node-below : ℕ → In 4 node-kinds.ps
+node-below t = and 4 node-kinds.ps (falls 4 node-kinds.ps _<_ μ-node t) node.Pre
 
-abbrev one-at : ℕ → In 3 one-kinds.ps
-one-at t = and 3 one-kinds.ps (is 3 one-kinds.ps μ-one t) one.Pre
+abbrev one-at : ℕ → In 4 one-kinds.ps
+one-at t = and 4 one-kinds.ps (is 4 one-kinds.ps μ-one t) one.Pre
 
-abbrev one-below : ℕ → In 3 one-kinds.ps
-one-below t = and 3 one-kinds.ps (falls 3 one-kinds.ps _<_ μ-one t) one.Pre
+abbrev one-below : ℕ → In 4 one-kinds.ps
+one-below t = and 4 one-kinds.ps (falls 4 one-kinds.ps _<_ μ-one t) one.Pre
 
-abbrev three-at : ℕ → In 3 three-kinds.ps
-three-at t = and 3 three-kinds.ps (is 3 three-kinds.ps μ-three t) three.Pre
+abbrev three-at : ℕ → In 4 three-kinds.ps
+three-at t = and 4 three-kinds.ps (is 4 three-kinds.ps μ-three t) three.Pre
 
-abbrev three-below : ℕ → In 3 three-kinds.ps
-three-below t = and 3 three-kinds.ps (falls 3 three-kinds.ps _<_ μ-three t) three.Pre
+abbrev three-below : ℕ → In 4 three-kinds.ps
+three-below t = and 4 three-kinds.ps (falls 4 three-kinds.ps _<_ μ-three t) three.Pre
 
-abbrev two-at : ℕ → In 3 two-kinds.ps
-two-at t = and 3 two-kinds.ps (is 3 two-kinds.ps μ-two t) two.Pre
+abbrev two-at : ℕ → In 4 two-kinds.ps
+two-at t = and 4 two-kinds.ps (is 4 two-kinds.ps μ-two t) two.Pre
 
-abbrev two-below : ℕ → In 3 two-kinds.ps
-two-below t = and 3 two-kinds.ps (falls 3 two-kinds.ps _<_ μ-two t) two.Pre
+abbrev two-below : ℕ → In 4 two-kinds.ps
+two-below t = and 4 two-kinds.ps (falls 4 two-kinds.ps _<_ μ-two t) two.Pre
 
 -- what each knows of those it calls
 abbrev binder-calls : ℕ → binder-lts.Claims

@@ -11,8 +11,8 @@ use Rattle.annotation.proofs.typing.annotation_refusal.Tie as tie
 
 returns : tie.Need-returns
 returns c =
-    at-root (c .before .before .before .before .before .before .before .before .before .before .pack-types .ensures refl) (λ l. c .before .before .before .before .before .before .before .bind-inputs .ensures (omega (arith, length-replicate {A = ℕ} 272 0)))
-    (omega (arith, c .before .before .before .before .before .before .before .bind-inputs .kept, length-replicate {A = ℕ} 272 0)) (c .before .before .before .before .before .last .ensures) (c .before .node .ensures) (c .verdict .ensures)
+    at-root (c .before .before .before .before .before .before .before .before .before .before .before .pack-types .ensures refl) (λ l. c .before .before .before .before .before .before .before .before .bind-inputs .ensures (omega (arith, length-replicate {A = ℕ} 272 0)))
+    (omega (arith, c .before .before .before .before .before .before .before .before .bind-inputs .kept, length-replicate {A = ℕ} 272 0)) (c .before .before .before .before .before .before .last .ensures) (c .before .node .ensures) (c .verdict .ensures)
 
 pub annotation-refusal-spec : {M : Type 1} → statement M
 annotation-refusal-spec =

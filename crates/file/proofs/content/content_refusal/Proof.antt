@@ -1,10 +1,13 @@
 -- `file::content::content_refusal` meets its contract: the counts, then three searches. Assumes nothing.
+use borrow.Author.Needs.{needs}
 use mathlib.Core.Path.{sym, _∙_}
 use native.Mathlib.Omega.{arith}
+use Rattle.lambdamix.specs.Limits.{maxNodes}
 use Rattle.script.specs.Tables.{rowType, rowInput, rowNode}
 use Rattle.script.specs.Replies.{refusalOf}
 use Rattle.file.proofs.Searching.{found-below}
 use Rattle.file.proofs.ContentLaws.{in-limits, wrong-counts, content-by-searches}
+use Rattle.file.proofs.ScriptLaws.{packed-by-search, not-packed}
 use Rattle.file.proofs.content.content_refusal.Statement.{statement}
 use Rattle.file.proofs.content.content_refusal.Tie as tie
 
@@ -14,33 +17,35 @@ first-bad-type-requires c κs =
     omega (arith, l)
 
 first-bad-node-requires : tie.Need-first-bad-node-requires
+unfolding maxNodes
 first-bad-node-requires c κs =
-    let l = in-limits _ _ _ (sym (c .before .before .before .counts-right .ensures) ∙ c .before .before .if1 .taken) in
-    omega (arith, l)
+    let l = in-limits _ _ _ (sym (c .before .before .before .before .counts-right .ensures) ∙ c .before .before .before .if1 .taken) in
+    ((omega (arith, l), (omega (arith, l .nodes), omega (arith, l .nodes, c .before .before .before .before .before .before .before .before .before .before .before .before .before .pre .1))), c .before .before .before .before .before .before .before .before .before .before .before .before .before .pre .0)
 
 record-refusal-requires : tie.Need-record-refusal-requires
 record-refusal-requires c κs =
-    let l = in-limits _ _ _ (sym (c .before .before .before .before .counts-right .ensures) ∙ c .before .before .before .if1 .taken) in (
+    let l = in-limits _ _ _ (sym (c .before .before .before .before .before .before .before .counts-right .ensures) ∙ c .before .before .before .before .before .before .if1 .taken) in (
       (omega (arith, l .types), omega (arith, l .inputs)),
       (
-        found-below _ _ _ (c .before .before .first-bad-type .ensures) (omega (arith, l .types)),
+        found-below _ _ _ (c .before .before .before .before .before .first-bad-type .ensures) (omega (arith, l .types)),
         (
-          found-below _ _ _ (c .before .first-bad-input .ensures) (omega (arith, l .inputs)),
-          found-below _ _ _ (c .first-bad-node .ensures) (omega (arith, l .nodes)),
+          found-below _ _ _ (c .before .before .before .before .first-bad-input .ensures) (omega (arith, l .inputs)),
+          found-below _ _ _ (c .before .before .first-bad-node .ensures .0) (omega (arith, l .nodes)),
         ),
       ),
     )
 
 returns : tie.Need-returns
 unfolding rowType rowInput rowNode
-returns c =
-    c .record-refusal .ensures
-    ∙ content-by-searches _ _ _ _ (sym (c .before .before .before .before .before .counts-right .ensures) ∙ c .before .before .before .before .if1 .taken)
-    (c .before .before .before .first-bad-type .ensures) (c .before .before .first-bad-input .ensures) (c .before .first-bad-node .ensures)
+returns c = (
+  c .record-refusal .ensures
+      ∙ content-by-searches _ _ _ _ (sym (c .before .before .before .before .before .before .before .before .counts-right .ensures) ∙ c .before .before .before .before .before .before .before .if1 .taken) (c .before .before .before .before .before .before .first-bad-type .ensures) (c .before .before .before .before .before .first-bad-input .ensures) (c .before .before .before .first-bad-node .ensures .0),
+  packed-by-search _ _ _ _ _ (c .record-refusal .ensures) (c .before .before .before .first-bad-node .ensures .1),
+)
 
 returns-2 : tie.Need-returns-2
 unfolding refusalOf
-returns-2 c = wrong-counts _ _ _ _ (sym (c .before .counts-right .ensures) ∙ c .if1 .left)
+returns-2 c = (wrong-counts _ _ _ _ (sym (c .before .counts-right .ensures) ∙ c .if1 .left), not-packed)
 
 pub content-refusal-spec : {M : Type 1} → statement M
 content-refusal-spec =
@@ -51,5 +56,6 @@ content-refusal-spec =
     (λ c κs. tt)
     first-bad-node-requires
     record-refusal-requires
+    (λ c. search needs)
     returns
     returns-2)

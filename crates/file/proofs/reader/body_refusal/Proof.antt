@@ -1,7 +1,11 @@
 -- `file::reader::body_refusal` meets its contract: its own columns hold the file's script. Assumes nothing.
 use borrow.Author.Needs.{needs}
+use Prim.Native.Nat.{ℕ}
 use mathlib.Core.Path.{refl}
-use Rattle.file.proofs.ReaderLaws.{counts-here, own-fits, body-by-records}
+use native.Mathlib.Omega.{arith}
+use lib.IntN.{ℤ, pos}
+use lib.ListN.{length-replicate}
+use Rattle.file.proofs.ReaderLaws.{counts-here, own-fits, own-holds, body-by-records}
 use Rattle.file.proofs.reader.body_refusal.Statement.{statement}
 use Rattle.file.proofs.reader.body_refusal.Tie as tie
 
@@ -10,7 +14,13 @@ fill-tables-requires c κs =
     own-fits _ _ (c .before .before .before .before .before .before .before .before .head-counts .ensures) (c .before .before .before .before .before .before .before .before .before .before .pre) refl refl refl refl refl refl refl refl
 
 records-refusal-requires : tie.Need-records-refusal-requires
-records-refusal-requires c κs = counts-here _ (c .before .before .before .before .before .before .before .before .before .before .before .before .before .before .before .before .before .before .before .before .before .before .before .before .before .head-counts .ensures) (c .before .before .before .before .before .before .before .before .before .before .before .before .before .before .before .before .before .before .before .before .before .before .before .before .before .before .before .pre)
+records-refusal-requires c κs =
+    let k = c .before .before .before .before .before .before .before .before .before .before .before .before .before .before .before .before .fill-tables .kept in
+    let l = length-replicate {A = ℕ} 4096 0 in (
+      counts-here _ (c .before .before .before .before .before .before .before .before .before .before .before .before .before .before .before .before .before .before .before .before .before .before .before .before .before .head-counts .ensures) (c .before .before .before .before .before .before .before .before .before .before .before .before .before .before .before .before .before .before .before .before .before .before .before .before .before .before .before .pre),
+      own-holds _ (c .before .before .before .before .before .before .before .before .before .before .before .before .before .before .before .before .before .before .before .before .before .before .before .before .before .head-counts .ensures) (c .before .before .before .before .before .before .before .before .before .before .before .before .before .before .before .before .before .before .before .before .before .before .before .before .before .before .before .pre) (omega (arith, k, l)) (omega (arith, k, l)) (omega (arith, k, l)) (omega (arith, k, l))
+          (omega (arith, k, length-replicate {A = ℤ} 4096 (pos 0))),
+    )
 
 returns : tie.Need-returns
 returns c =

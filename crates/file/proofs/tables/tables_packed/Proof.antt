@@ -1,4 +1,6 @@
 -- `file::tables::tables_packed` meets its contract: with too few words nothing is said of them. Assumes nothing.
+use borrow.Author.Needs.{needs}
+use Prim.Native.Nat.{min}
 use mathlib.Core.Path.{sym, _∙_}
 use native.Mathlib.Omega.{arith}
 use lib.ListN.{length}
@@ -10,9 +12,12 @@ use Rattle.file.proofs.tables.tables_packed.Tie as tie
 packed-refusal-requires : tie.Need-packed-refusal-requires
 packed-refusal-requires c κs = leb-true _ _ (sym (c .before .before .enough-words .ensures) ∙ c .before .if1 .taken)
 
+returns : tie.Need-returns
+returns c = c .before .before .packed-refusal .ensures
+
 returns-2 : tie.Need-returns-2
 returns-2 c =
-    (c .tables-refusal .ensures, record { nodes = λ e h. absurd (omega (arith, leb-false maxNodes (length (c .before .before .before .before .before .before .before .before .before .before .before .before .args .words .now)) (sym (c .before .before .enough-words .ensures) ∙ c .before .if1 .left))) })
+    (c .tables-refusal .ensures, record { nodes = λ e h. absurd (omega (arith, leb-false (min (c .before .before .before .before .before .before .before .before .before .before .before .args .n .nodes) maxNodes) (length (c .before .before .before .before .before .before .before .before .before .before .before .args .words .now)) (sym (c .before .before .enough-words .ensures) ∙ c .before .if1 .left))) })
 
 pub tables-packed-spec : {M : Type 1} → statement M
 tables-packed-spec =
@@ -21,5 +26,6 @@ tables-packed-spec =
     (λ c κs. tt)
     packed-refusal-requires
     (λ c κs. tt)
-    (λ c. c .packed-refusal .ensures)
+    (λ c. search needs)
+    returns
     returns-2)

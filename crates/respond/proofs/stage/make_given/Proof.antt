@@ -6,13 +6,13 @@ use Rattle.respond.proofs.stage.make_given.Statement.{statement}
 use Rattle.respond.proofs.stage.make_given.Tie as tie
 
 decode-requires : tie.Need-decode-requires
-decode-requires c κs = (omega (arith, c .before .given-count .ensures, given-most (c .before .before .before .before .before .before .before .before .before .before .before .before .before .before .args .rest .now)), omega (arith, c .before .given-count .ensures, given-most (c .before .before .before .before .before .before .before .before .before .before .before .before .before .before .args .rest .now)))
+decode-requires c κs = (omega (arith, c .before .given-count .ensures, given-most (c .before .before .before .before .before .before .before .before .before .before .before .before .before .args .rest .now)), omega (arith, c .before .given-count .ensures, given-most (c .before .before .before .before .before .before .before .before .before .before .before .before .before .args .rest .now)))
 
 part-make-end : tie.Need-part-make-end
-part-make-end c = omega (arith, c .before .before .before .before .given-count .ensures, given-most (c .before .before .before .before .before .before .before .before .before .before .before .before .before .before .before .before .before .args .rest .now), c .before .before .decode .kept)
+part-make-end c = omega (arith, c .before .before .before .before .given-count .ensures, given-most (c .before .before .before .before .before .before .before .before .before .before .before .before .before .before .before .before .args .rest .now), c .before .before .decode .kept)
 
 returns : tie.Need-returns
-returns c = makes-given _ _ (c .before .before .before .before .before .before .before .before .before .before .before .before .before .before .before .before .before .before .given-count .ensures) (c .before .before .before .before .before .before .before .before .before .before .before .before .before .before .before .before .decode .ensures) (c .before .before .before .before .before .before .before .before .make .ensures)
+returns c = makes-given _ _ (c .before .before .before .before .before .before .before .before .before .before .before .before .before .before .before .given-count .ensures) (c .before .before .before .before .before .before .before .before .before .before .before .before .before .decode .ensures) (c .before .before .before .before .before .before .make .ensures)
 
 pub make-given-spec : {M : Type 1} → statement M
 make-given-spec =
@@ -26,7 +26,6 @@ make-given-spec =
     part-make-end
     (λ c. search needs)
     (λ c κs. search needs)
-    (λ c. search needs)
     (λ c. search needs)
     (λ c. search needs)
     (λ c. search needs)

@@ -27,32 +27,32 @@ use Rattle.script.proofs.word.word_at.Reads as word-at-reads
 use Rattle.script.proofs.structure.+tall+tall_child+tall_children.{statement}
 use Rattle.script.proofs.structure.+tall+tall_child+tall_children.Tie.{close}
 
-abbrev μ-tall : Measures 1 tall-kinds.ps ℕ
+abbrev μ-tall : Measures 2 tall-kinds.ps ℕ
 μ-tall κs a = a .1 .0 + a .1 .0 + a .1 .0 + 2
 
-abbrev μ-tall-child : Measures 1 tall-child-kinds.ps ℕ
+abbrev μ-tall-child : Measures 2 tall-child-kinds.ps ℕ
 μ-tall-child κs a = a .1 .0 + a .1 .0 + a .1 .0
 
-abbrev μ-tall-children : Measures 1 tall-children-kinds.ps ℕ
+abbrev μ-tall-children : Measures 2 tall-children-kinds.ps ℕ
 μ-tall-children κs a = a .1 .0 + a .1 .0 + a .1 .0 + 1
 
-abbrev node-at : ℕ → In 1 tall-kinds.ps
-node-at t = and 1 tall-kinds.ps (is 1 tall-kinds.ps μ-tall t) tall.Pre
+abbrev node-at : ℕ → In 2 tall-kinds.ps
+node-at t = and 2 tall-kinds.ps (is 2 tall-kinds.ps μ-tall t) tall.Pre
 
-abbrev node-below : ℕ → In 1 tall-kinds.ps
-node-below t = and 1 tall-kinds.ps (falls 1 tall-kinds.ps _<_ μ-tall t) tall.Pre
+abbrev node-below : ℕ → In 2 tall-kinds.ps
+node-below t = and 2 tall-kinds.ps (falls 2 tall-kinds.ps _<_ μ-tall t) tall.Pre
 
-abbrev child-at : ℕ → In 1 tall-child-kinds.ps
-child-at t = and 1 tall-child-kinds.ps (is 1 tall-child-kinds.ps μ-tall-child t) tall-child.Pre
+abbrev child-at : ℕ → In 2 tall-child-kinds.ps
+child-at t = and 2 tall-child-kinds.ps (is 2 tall-child-kinds.ps μ-tall-child t) tall-child.Pre
 
-abbrev child-below : ℕ → In 1 tall-child-kinds.ps
-child-below t = and 1 tall-child-kinds.ps (falls 1 tall-child-kinds.ps _<_ μ-tall-child t) tall-child.Pre
+abbrev child-below : ℕ → In 2 tall-child-kinds.ps
+child-below t = and 2 tall-child-kinds.ps (falls 2 tall-child-kinds.ps _<_ μ-tall-child t) tall-child.Pre
 
-abbrev children-at : ℕ → In 1 tall-children-kinds.ps
-children-at t = and 1 tall-children-kinds.ps (is 1 tall-children-kinds.ps μ-tall-children t) tall-children.Pre
+abbrev children-at : ℕ → In 2 tall-children-kinds.ps
+children-at t = and 2 tall-children-kinds.ps (is 2 tall-children-kinds.ps μ-tall-children t) tall-children.Pre
 
-abbrev children-below : ℕ → In 1 tall-children-kinds.ps
-children-below t = and 1 tall-children-kinds.ps (falls 1 tall-children-kinds.ps _<_ μ-tall-children t) tall-children.Pre
+abbrev children-below : ℕ → In 2 tall-children-kinds.ps
+children-below t = and 2 tall-children-kinds.ps (falls 2 tall-children-kinds.ps _<_ μ-tall-children t) tall-children.Pre
 
 abbrev node-claims : ℕ → tall-lts.Claims
 node-claims t = (word-at-reads.Asked, word-at-reads.Learnt, children-below t, tall-children.Post, tall-over-reads.Asked, tall-over-reads.Learnt)
@@ -66,37 +66,37 @@ children-claims t =
 
 tall-returns : (t : ℕ) → tall-lts.Need-returns (node-claims t) (node-at t) tall.Post
 tall-returns t c =
-    tall-node (c .before .before .before .before .args .nodes .now) (c .before .before .before .before .args .i) (c .before .before .word-at .ensures) (c .before .tall-children .ensures) (c .tall-over .ensures)
+    tall-node (c .before .before .before .before .args .nodes .now .now) (c .before .before .before .before .args .i) (c .before .before .word-at .ensures) (c .before .tall-children .ensures) (c .tall-over .ensures)
 
 tall-child-returns : (t : ℕ) → tall-child-lts.Need-returns (child-claims t) (child-at t) tall-child.Post
-tall-child-returns t c = heights.tall-child (columnsIn (c .before .before .args .nodes .now)) (c .before .before .args .i) (c .before .if1 .taken) (c .tall .ensures)
+tall-child-returns t c = heights.tall-child (columnsIn (c .before .before .args .nodes .now .now)) (c .before .before .args .i) (c .before .if1 .taken) (c .tall .ensures)
 
 tall-child-returns-2 : (t : ℕ) → tall-child-lts.Need-returns-2 (child-claims t) (child-at t) tall-child.Post
-tall-child-returns-2 t c = tall-stray (columnsIn (c .before .args .nodes .now)) (c .before .args .i) (c .if1 .left)
+tall-child-returns-2 t c = tall-stray (columnsIn (c .before .args .nodes .now .now)) (c .before .args .i) (c .if1 .left)
 
 tall-children-returns : (t : ℕ) → tall-children-lts.Need-returns (children-claims t) (children-at t) tall-children.Post
 tall-children-returns t c =
-    rw (kids (c .before .before .before .before .args .w) (at-one (c .before .before .before .before .args .w) (c .before .before .before .kind .ensures) (c .before .field-a .ensures) (c .before .before .match .keys1))) (over-last (columnsIn (c .before .before .before .before .args .nodes .now)) (c .before .before .before .before .args .i) _ (c .tall-child .ensures))
+    rw (kids (c .before .before .before .before .args .w) (at-one (c .before .before .before .before .args .w) (c .before .before .before .kind .ensures) (c .before .field-a .ensures) (c .before .before .match .keys1))) (over-last (columnsIn (c .before .before .before .before .args .nodes .now .now)) (c .before .before .before .before .args .i) _ (c .tall-child .ensures))
 
 tall-children-returns-2 : (t : ℕ) → tall-children-lts.Need-returns-2 (children-claims t) (children-at t) tall-children.Post
 tall-children-returns-2 t c =
-    rw (kids (c .before .before .before .before .args .w) (at-under (c .before .before .before .before .args .w) (c .before .before .before .kind .ensures) (c .before .field-c .ensures) (c .before .before .match .keys2))) (over-last (columnsIn (c .before .before .before .before .args .nodes .now)) (c .before .before .before .before .args .i) _ (c .tall-child2 .ensures))
+    rw (kids (c .before .before .before .before .args .w) (at-under (c .before .before .before .before .args .w) (c .before .before .before .kind .ensures) (c .before .field-c .ensures) (c .before .before .match .keys2))) (over-last (columnsIn (c .before .before .before .before .args .nodes .now .now)) (c .before .before .before .before .args .i) _ (c .tall-child2 .ensures))
 
 tall-children-returns-3 : (t : ℕ) → tall-children-lts.Need-returns-3 (children-claims t) (children-at t) tall-children.Post
 tall-children-returns-3 t c =
     rw (kids (c .before .before .before .before .before .before .before .args .w) (at-two (c .before .before .before .before .before .before .before .args .w) (c .before .before .before .before .before .before .kind .ensures) (c .before .before .before .before .field-a2 .ensures) (c .before .before .field-b .ensures) (c .before .before .before .before .before .match .keys3)))
-    (over-more (columnsIn (c .before .before .before .before .before .before .before .args .nodes .now)) (c .before .before .before .before .before .before .before .args .i) _ _ (c .before .before .before .tall-child3 .ensures) (over-last (columnsIn (c .before .before .before .before .before .before .before .args .nodes .now)) (c .before .before .before .before .before .before .before .args .i) _ (c .before .tall-child4 .ensures)) (c .tall-join .ensures))
+    (over-more (columnsIn (c .before .before .before .before .before .before .before .args .nodes .now .now)) (c .before .before .before .before .before .before .before .args .i) _ _ (c .before .before .before .tall-child3 .ensures) (over-last (columnsIn (c .before .before .before .before .before .before .before .args .nodes .now .now)) (c .before .before .before .before .before .before .before .args .i) _ (c .before .tall-child4 .ensures)) (c .tall-join .ensures))
 
 tall-children-returns-4 : (t : ℕ) → tall-children-lts.Need-returns-4 (children-claims t) (children-at t) tall-children.Post
 tall-children-returns-4 t c =
     rw (kids (c .before .before .before .before .before .before .before .before .before .before .args .w) (at-three (c .before .before .before .before .before .before .before .before .before .before .args .w) (c .before .before .before .before .before .before .before .before .before .kind .ensures) (c .before .before .before .before .before .before .before .field-a3 .ensures) (c .before .before .before .before .before .field-b2 .ensures) (c .before .before .before .field-c2 .ensures) (c .before .before .before .before .before .before .before .before .match .keys4)))
-    (over-more (columnsIn (c .before .before .before .before .before .before .before .before .before .before .args .nodes .now)) (c .before .before .before .before .before .before .before .before .before .before .args .i) _ _ (c .before .before .before .before .before .before .tall-child5 .ensures)
-    (over-more (columnsIn (c .before .before .before .before .before .before .before .before .before .before .args .nodes .now)) (c .before .before .before .before .before .before .before .before .before .before .args .i) _ _ (c .before .before .before .before .tall-child6 .ensures) (over-last (columnsIn (c .before .before .before .before .before .before .before .before .before .before .args .nodes .now)) (c .before .before .before .before .before .before .before .before .before .before .args .i) _ (c .before .before .tall-child7 .ensures)) (c .before .tall-join2 .ensures)) (c .tall-join3 .ensures))
+    (over-more (columnsIn (c .before .before .before .before .before .before .before .before .before .before .args .nodes .now .now)) (c .before .before .before .before .before .before .before .before .before .before .args .i) _ _ (c .before .before .before .before .before .before .tall-child5 .ensures)
+    (over-more (columnsIn (c .before .before .before .before .before .before .before .before .before .before .args .nodes .now .now)) (c .before .before .before .before .before .before .before .before .before .before .args .i) _ _ (c .before .before .before .before .tall-child6 .ensures) (over-last (columnsIn (c .before .before .before .before .before .before .before .before .before .before .args .nodes .now .now)) (c .before .before .before .before .before .before .before .before .before .before .args .i) _ (c .before .before .tall-child7 .ensures)) (c .before .tall-join2 .ensures)) (c .tall-join3 .ensures))
 
 tall-children-returns-5 : (t : ℕ) → tall-children-lts.Need-returns-5 (children-claims t) (children-at t) tall-children.Post
 tall-children-returns-5 t c =
     let o = c .match .rest in
-    over-none (columnsIn (c .before .before .args .nodes .now)) (c .before .before .args .i) _ (childless (c .before .before .args .w) (c .before .kind .ensures) (o .0 .0 .0 .1) (o .0 .0 .1) (o .0 .1) (o .1))
+    over-none (columnsIn (c .before .before .args .nodes .now .now)) (c .before .before .args .i) _ (childless (c .before .before .args .w) (c .before .kind .ensures) (o .0 .0 .0 .1) (o .0 .0 .1) (o .0 .1) (o .1))
 
 children-requires : (t : ℕ) → tall-lts.Need-tall-children-requires (node-claims t) (node-at t) tall.Post
 children-requires t c κs = (omega (arith, c .before .before .pre .0), tt)

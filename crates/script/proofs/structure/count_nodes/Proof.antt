@@ -19,13 +19,13 @@ unfolding usesBelow
 loop-holds c = (search needs, counted-none _)
 
 loop-again : tie.Need-loop-again Inv-loop μ-loop
-loop-again c = (search needs, counted-node (c .before .before .before .before .before .before .before .before .before .args .nodes .now) (c .before .before .before .before .before .before .before .loop .i) (c .before .before .before .word-at .ensures) (c .before .before .before .before .before .before .before .loop .inv .1) (c .before .before .count-node .ensures))
+loop-again c = (search needs, counted-node (c .before .before .before .before .before .before .before .before .before .args .nodes .now) (c .before .before .before .before .before .before .loop .i) (c .before .before .before .word-at .ensures) (c .before .before .before .before .before .before .loop .inv .1) (c .before .before .count-node .ensures))
 
 same-length : tie.Need-same-length Inv-loop μ-loop
 same-length c = c .before .loop .inv .1 .same
 
 returns : tie.Need-returns Inv-loop μ-loop
-returns c = let e : c .before .loop .i ≡ c .before .before .before .args .count = omega arith in rw (sym e) (c .before .loop .inv .1)
+returns c = let e : c .before .loop .i ≡ c .before .before .before .before .args .count = omega arith in rw (sym e) (c .before .loop .inv .1)
 
 pub count-nodes-spec : {M : Type 1} → statement M
 count-nodes-spec =

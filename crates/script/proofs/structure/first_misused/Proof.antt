@@ -10,10 +10,16 @@ use Rattle.script.proofs.structure.first_misused.Statement.{statement}
 use Rattle.script.proofs.structure.first_misused.Tie as tie
 
 returns : tie.Need-returns
-unfolding usedOnceAt maxNodes
+unfolding usedOnceAt
 returns c =
     c .first-not-one .ensures
-    ∙ first-same _ _ 0 _ (λ j l. counted-once _ 4096 _ (c .before .before .before .count-nodes .ensures) j (omega (arith, c .before .before .before .before .before .pre)))
+    ∙ first-same _ _ 0 _ (λ j l. counted-once _ 256 _ (c .before .before .before .count-nodes .ensures) j (omega (arith, c .before .before .before .before .before .if1 .taken)))
+
+returns-2 : tie.Need-returns-2
+unfolding usedOnceAt maxNodes
+returns-2 c =
+    c .first-not-one2 .ensures
+    ∙ first-same _ _ 0 _ (λ j l. counted-once _ 4096 _ (c .before .before .before .count-nodes2 .ensures) j (omega (arith, c .before .before .before .before .before .before .before .pre)))
 
 pub first-misused-spec : {M : Type 1} → statement M
 first-misused-spec =
@@ -25,4 +31,11 @@ first-misused-spec =
     (λ c. search needs)
     (λ c. search needs)
     (λ c κs. tt)
-    returns)
+    returns
+    (λ c. search needs)
+    (λ c κs. tt)
+    (λ c. search needs)
+    (λ c. search needs)
+    (λ c. search needs)
+    (λ c κs. tt)
+    returns-2)

@@ -7,7 +7,7 @@ use Rattle.script.proofs.structure.tree_refusal.Statement.{statement}
 use Rattle.script.proofs.structure.tree_refusal.Tie as tie
 
 scope-refusal-requires : tie.Need-scope-refusal-requires
-scope-refusal-requires c κs = (c .before .before .pre, tall-low (c .before .tall .ensures) (c .if1 .taken) .0)
+scope-refusal-requires c κs = (c .before .before .before .before .pre, tall-low (c .before .tall .ensures) (c .if1 .taken) .0)
 
 returns : tie.Need-returns
 unfolding refusedAt orElse

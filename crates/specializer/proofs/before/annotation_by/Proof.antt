@@ -11,7 +11,7 @@ returns c = λ ks xs ys zs vs ok p. rw (c .if1 .taken)
 
 returns-2 : tie.Need-returns-2
 unfolding annotationBy
-returns-2 c = λ ks xs ys zs vs ok p. rw (c .before .if1 .left) (c .annotation-refusal .ensures .reply ks xs ys zs vs ok p)
+returns-2 c = λ ks xs ys zs vs ok p. rw (c .before .before .if1 .left) (c .annotation-refusal .ensures .reply ks xs ys zs vs ok p)
 
 pub annotation-by-spec : {M : Type 1} → statement M
 annotation-by-spec = tie.close (tie.spec returns (λ c κs. search needs) returns-2)

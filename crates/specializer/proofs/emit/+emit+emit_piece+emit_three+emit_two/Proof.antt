@@ -27,7 +27,6 @@ use Rattle.specializer.proofs.emit.+emit+emit_piece+emit_three+emit_two
 use Rattle.specializer.proofs.emit.emit_two.Reads as emit-two
 use Rattle.specializer.proofs.emit.emit_two.Kinds as emit-two-kinds
 use Rattle.specializer.proofs.emit.+emit+emit_piece+emit_three+emit_two.Lts-emit_two as emit-two-lts
-use Rattle.script.proofs.word.word_at.Reads as word-at-reads
 use Rattle.script.proofs.word.value.Reads as value-reads
 use Rattle.script.proofs.word.field_a.Reads as field-a-reads
 use Rattle.script.proofs.word.kind.Reads as kind-reads
@@ -79,8 +78,6 @@ emit-two-below t = and 2 emit-two-kinds.ps (falls 2 emit-two-kinds.ps _<_ μ-emi
 -- the readings of what each calls
 abbrev emit-calls : ℕ → emit-lts.Claims
 emit-calls t = (
-  word-at-reads.Asked,
-  word-at-reads.Learnt,
   kind-reads.Asked,
   kind-reads.Learnt,
   field-a-reads.Asked,
@@ -102,7 +99,18 @@ emit-calls t = (
 )
 
 abbrev emit-piece-calls : ℕ → emit-piece-lts.Claims
-emit-piece-calls t = (emit-value-reads.Asked, emit-value-reads.Learnt, emit-below t, emit.Post)
+emit-piece-calls t = (
+  emit-value-reads.Asked,
+  emit-value-reads.Learnt,
+  kind-reads.Asked,
+  kind-reads.Learnt,
+  field-a-reads.Asked,
+  field-a-reads.Learnt,
+  emit-node-reads.Asked,
+  emit-node-reads.Learnt,
+  emit-below t,
+  emit.Post,
+)
 
 abbrev emit-three-calls : ℕ → emit-three-lts.Claims
 emit-three-calls t = (
@@ -140,80 +148,97 @@ emit-two-calls t = (
 
 variable-returns : (t : ℕ) → emit-lts.Need-returns (emit-calls t) (emit-at t) emit.Post
 variable-returns t c =
-    let a = c .before .before .before .before .before .before .before .before .before .before .args in
-    emits-code (over-variable (is-variable (a .codes .now) (a .p) (c .before .before .before .before .before .before .before .word-at .ensures) (c .before .before .before .before .before .before .kind .ensures) (c .before .before .before .before .before .match .keys1)) (c .before .before .before .field-a .ensures)) (c .before .before .before .before .before .before .before .before .before .before .pre .1 .1) (emits-over emits-none (c .before .before .emit-node .ensures))
+    let a = c .before .before .before .before .before .before .before .before .before .args in
+    emits-code (over-variable (is-variable (record { word = c .before .before .before .before .before .before .before .before .before .pre .1 .1 .1; kind = c .before .before .before .before .before .before .kind .ensures }) (c .before .before .before .before .before .match .keys1) .code) (c .before .before .before .field-a .ensures)) (c .before .before .before .before .before .before .before .before .before .pre .1 .0 .1) (emits-over emits-none (c .before .before .emit-node .ensures))
 
 function-piece : (t : ℕ) → emit-lts.Need-emit-piece-requires (emit-calls t) (emit-at t) emit.Post
 function-piece t c κs =
-    let a = c .before .before .before .before .before .before .before .args in
+    let a = c .before .before .before .before .before .before .args in
     let self = codeBelow (a .codes .now) (a .p) in
-    (omega (arith, c .before .before .before .before .before .before .before .pre .0), (c .before .before .before .before .before .before .before .pre .1 .0, low-first self (a .k) nilC (c .before .field-c .ensures) (over-low (over-function self (is-function (a .codes .now) (a .p) (c .before .before .before .before .word-at .ensures) (c .before .before .before .kind .ensures) (c .before .before .match .keys2)) refl) (a .k) (c .before .before .before .before .before .before .before .pre .1 .1))))
+    (omega (arith, c .before .before .before .before .before .before .pre .0), ((c .before .before .before .before .before .before .pre .1 .0 .0, low-first self (a .k) nilC (c .before .field-c .ensures) (over-low (over-function self (is-function (record { word = c .before .before .before .before .before .before .pre .1 .1 .1; kind = c .before .before .before .kind .ensures }) (c .before .before .match .keys2) .code) refl) (a .k) (c .before .before .before .before .before .before .pre .1 .0 .1))), c .before .before .before .before .before .before .pre .1 .1 .0))
 
 function-returns : (t : ℕ) → emit-lts.Need-returns-2 (emit-calls t) (emit-at t) emit.Post
 function-returns t c =
-    let a = c .before .before .before .before .before .before .before .before .before .before .before .before .before .before .before .args in
+    let a = c .before .before .before .before .before .before .before .before .before .before .before .before .before .before .args in
     let self = codeBelow (a .codes .now) (a .p) in
-    emits-code (over-function self (is-function (a .codes .now) (a .p) (c .before .before .before .before .before .before .before .before .before .before .before .before .word-at .ensures) (c .before .before .before .before .before .before .before .before .before .before .before .kind .ensures) (c .before .before .before .before .before .before .before .before .before .before .match .keys2)) (c .before .before .before .field-a2 .ensures)) (c .before .before .before .before .before .before .before .before .before .before .before .before .before .before .before .pre .1 .1)
+    emits-code (over-function self (is-function (record { word = c .before .before .before .before .before .before .before .before .before .before .before .before .before .before .pre .1 .1 .1; kind = c .before .before .before .before .before .before .before .before .before .before .before .kind .ensures }) (c .before .before .before .before .before .before .before .before .before .before .match .keys2) .code) (c .before .before .before .field-a2 .ensures)) (c .before .before .before .before .before .before .before .before .before .before .before .before .before .before .pre .1 .0 .1)
     (emits-over (emits-more self (c .before .before .before .before .before .before .before .before .before .field-c .ensures) (c .before .before .before .before .before .before .before .emit-piece .ensures) emits-none) (c .before .before .emit-node2 .ensures))
 
 two-requires : (t : ℕ) → emit-lts.Need-emit-two-requires (emit-calls t) (emit-at t) emit.Post
 two-requires t c κs =
-    let a = c .before .before .before .before .before .before .args in
-    (omega (arith, c .before .before .before .before .before .before .pre .0), (c .before .before .before .before .before .before .pre .1 .0, (⊎-elim (λ e. omega (arith, e, c .before .before .kind .ensures)) (λ e. omega (arith, e, c .before .before .kind .ensures)) (c .before .match .keys3), over-low (over-two (a .codes .now) (a .p) (c .before .before .before .word-at .ensures) (c .before .before .kind .ensures) (c .before .match .keys3)) (a .k) (c .before .before .before .before .before .before .pre .1 .1))))
+    let a = c .before .before .before .before .before .args in
+    (omega (arith, c .before .before .before .before .before .pre .0), ((c .before .before .before .before .before .pre .1 .0 .0, over-low (over-two (record { word = c .before .before .before .before .before .pre .1 .1 .1; kind = c .before .before .kind .ensures }) (c .before .match .keys3)) (a .k) (c .before .before .before .before .before .pre .1 .0 .1)), (c .before .before .before .before .before .pre .1 .1 .0, ⊎-elim (λ e. omega (arith, e, c .before .before .kind .ensures)) (λ e. omega (arith, e, c .before .before .kind .ensures)) (c .before .match .keys3))))
 
 two-returns : (t : ℕ) → emit-lts.Need-returns-3 (emit-calls t) (emit-at t) emit.Post
 two-returns t c =
-    let a = c .before .before .before .before .before .before .before .before .before .args in
-    emits-code (over-two (a .codes .now) (a .p) (c .before .before .before .before .before .before .word-at .ensures) (c .before .before .before .before .before .kind .ensures) (c .before .before .before .before .match .keys3)) (c .before .before .before .before .before .before .before .before .before .pre .1 .1) (c .before .before .emit-two .ensures)
+    let a = c .before .before .before .before .before .before .before .before .args in
+    emits-code (over-two (record { word = c .before .before .before .before .before .before .before .before .pre .1 .1 .1; kind = c .before .before .before .before .before .kind .ensures }) (c .before .before .before .before .match .keys3)) (c .before .before .before .before .before .before .before .before .pre .1 .0 .1) (c .before .before .emit-two .ensures)
 
 single-piece : (t : ℕ) → emit-lts.Need-emit-piece-requires-2 (emit-calls t) (emit-at t) emit.Post
 single-piece t c κs =
-    let a = c .before .before .before .before .before .before .before .args in
+    let a = c .before .before .before .before .before .before .args in
     let self = codeBelow (a .codes .now) (a .p) in
-    (omega (arith, c .before .before .before .before .before .before .before .pre .0), (c .before .before .before .before .before .before .before .pre .1 .0, low-first self (a .k) nilC (c .before .field-a3 .ensures) (over-low (over-single self (is-single (a .codes .now) (a .p) (c .before .before .before .before .word-at .ensures) (c .before .before .before .kind .ensures) (c .before .before .match .keys4))) (a .k) (c .before .before .before .before .before .before .before .pre .1 .1))))
+    (omega (arith, c .before .before .before .before .before .before .pre .0), ((c .before .before .before .before .before .before .pre .1 .0 .0, low-first self (a .k) nilC (c .before .field-a3 .ensures) (over-low (over-single self (is-single (record { word = c .before .before .before .before .before .before .pre .1 .1 .1; kind = c .before .before .before .kind .ensures }) (c .before .before .match .keys4) .code)) (a .k) (c .before .before .before .before .before .before .pre .1 .0 .1))), c .before .before .before .before .before .before .pre .1 .1 .0))
 
 single-returns : (t : ℕ) → emit-lts.Need-returns-4 (emit-calls t) (emit-at t) emit.Post
 single-returns t c =
-    let a = c .before .before .before .before .before .before .before .before .before .before .before .before .before .before .args in
+    let a = c .before .before .before .before .before .before .before .before .before .before .before .before .before .args in
     let self = codeBelow (a .codes .now) (a .p) in
-    emits-code (over-single self (is-single (a .codes .now) (a .p) (c .before .before .before .before .before .before .before .before .before .before .before .word-at .ensures) (c .before .before .before .before .before .before .before .before .before .before .kind .ensures) (c .before .before .before .before .before .before .before .before .before .match .keys4))) (c .before .before .before .before .before .before .before .before .before .before .before .before .before .before .pre .1 .1)
+    emits-code (over-single self (is-single (record { word = c .before .before .before .before .before .before .before .before .before .before .before .before .before .pre .1 .1 .1; kind = c .before .before .before .before .before .before .before .before .before .before .kind .ensures }) (c .before .before .before .before .before .before .before .before .before .match .keys4) .code)) (c .before .before .before .before .before .before .before .before .before .before .before .before .before .pre .1 .0 .1)
     (emits-over (emits-more self (c .before .before .before .before .before .before .before .before .field-a3 .ensures) (c .before .before .before .before .before .before .emit-piece2 .ensures) emits-none) (c .before .before .emit-node3 .ensures))
 
 three-requires : (t : ℕ) → emit-lts.Need-emit-three-requires (emit-calls t) (emit-at t) emit.Post
 three-requires t c κs =
-    let a = c .before .before .before .before .before .before .args in
-    (omega (arith, c .before .before .before .before .before .before .pre .0), (c .before .before .before .before .before .before .pre .1 .0, over-low (over-three (a .codes .now) (a .p) (c .before .before .before .word-at .ensures) (c .before .before .kind .ensures) (c .before .match .keys5)) (a .k) (c .before .before .before .before .before .before .pre .1 .1)))
+    let a = c .before .before .before .before .before .args in
+    (omega (arith, c .before .before .before .before .before .pre .0), ((c .before .before .before .before .before .pre .1 .0 .0, over-low (over-three (record { word = c .before .before .before .before .before .pre .1 .1 .1; kind = c .before .before .kind .ensures }) (c .before .match .keys5)) (a .k) (c .before .before .before .before .before .pre .1 .0 .1)), c .before .before .before .before .before .pre .1 .1 .0))
 
 three-returns : (t : ℕ) → emit-lts.Need-returns-5 (emit-calls t) (emit-at t) emit.Post
 three-returns t c =
-    let a = c .before .before .before .before .before .before .before .before .before .args in
-    emits-code (over-three (a .codes .now) (a .p) (c .before .before .before .before .before .before .word-at .ensures) (c .before .before .before .before .before .kind .ensures) (c .before .before .before .before .match .keys5)) (c .before .before .before .before .before .before .before .before .before .pre .1 .1) (c .before .before .emit-three .ensures)
+    let a = c .before .before .before .before .before .before .before .before .args in
+    emits-code (over-three (record { word = c .before .before .before .before .before .before .before .before .pre .1 .1 .1; kind = c .before .before .before .before .before .kind .ensures }) (c .before .before .before .before .match .keys5)) (c .before .before .before .before .before .before .before .before .pre .1 .0 .1) (c .before .before .emit-three .ensures)
 
 constant-requires : (t : ℕ) → emit-lts.Need-emit-constant-requires (emit-calls t) (emit-at t) emit.Post
 constant-requires t c κs =
-    let a = c .before .before .before .before .before .before .before .args in
+    let a = c .before .before .before .before .before .before .args in
     let r = c .before .before .match .rest in
-    (c .before .before .before .before .before .before .before .pre .1 .0, low-constant (is-constant (a .codes .now) (a .p) (c .before .before .before .before .word-at .ensures) (c .before .before .before .kind .ensures) (r .0 .0 .0 .0 .1) (r .0 .0 .0 .1) (r .0 .0 .1) (r .0 .1) (r .1)) (a .k) (c .before .before .before .before .before .before .before .pre .1 .1))
+    (c .before .before .before .before .before .before .pre .1 .0 .0, low-constant (is-constant (record { word = c .before .before .before .before .before .before .pre .1 .1 .1; kind = c .before .before .before .kind .ensures }) (r .0 .0 .0 .0 .1) (r .0 .0 .0 .1) (r .0 .0 .1) (r .0 .1) (r .1) .code) (a .k) (c .before .before .before .before .before .before .pre .1 .0 .1))
 
 constant-returns : (t : ℕ) → emit-lts.Need-returns-6 (emit-calls t) (emit-at t) emit.Post
 constant-returns t c =
-    let a = c .before .before .before .before .before .before .before .before .before .before .args in
+    let a = c .before .before .before .before .before .before .before .before .before .args in
     let r = c .before .before .before .before .before .match .rest in
-    emits-constant (is-constant (a .codes .now) (a .p) (c .before .before .before .before .before .before .before .word-at .ensures) (c .before .before .before .before .before .before .kind .ensures) (r .0 .0 .0 .0 .1) (r .0 .0 .0 .1) (r .0 .0 .1) (r .0 .1) (r .1)) (toZ-ofZ {w = w32} (record { sfits = c .before .before .before .value .ok }) ∙ c .before .before .before .value .ensures) (c .before .before .emit-constant .ensures)
+    emits-constant (is-constant (record { word = c .before .before .before .before .before .before .before .before .before .pre .1 .1 .1; kind = c .before .before .before .before .before .before .kind .ensures }) (r .0 .0 .0 .0 .1) (r .0 .0 .0 .1) (r .0 .0 .1) (r .0 .1) (r .1) .code) (toZ-ofZ {w = w32} (record { sfits = c .before .before .before .value .ok }) ∙ c .before .before .before .value .ensures) (c .before .before .emit-constant .ensures)
 
 -- ---- emit_piece
 
 piece-room : (t : ℕ) → emit-piece-lts.Need-emit-constant-requires (emit-piece-calls t) (emit-piece-at t) emit-piece.Post
-piece-room t c κs = (c .before .before .before .before .pre .1 .0, low-constant (below-none (c .before .before .before .before .args .codes .now) (c .before .before .before .before .args .p) (c .before .before .before .before .args .q) (c .before .if1 .taken)) (c .before .before .before .before .args .k) (c .before .before .before .before .pre .1 .1))
+piece-room t c κs =
+    let a = c .before .before .before .before .args in
+    (c .before .before .before .before .pre .1 .0 .0, low-constant (below-none (a .codes .now) (a .p) (a .q) (c .before .if1 .taken)) (a .k) (c .before .before .before .before .pre .1 .0 .1))
 
-piece-returns : (t : ℕ) → emit-piece-lts.Need-returns (emit-piece-calls t) (emit-piece-at t) emit-piece.Post
-piece-returns t c = emits-constant (below-none (c .before .before .before .before .before .before .before .args .codes .now) (c .before .before .before .before .before .before .before .args .p) (c .before .before .before .before .before .before .before .args .q) (c .before .before .before .before .if1 .taken)) refl (c .before .before .emit-constant .ensures)
+piece-constant : (t : ℕ) → emit-piece-lts.Need-returns (emit-piece-calls t) (emit-piece-at t) emit-piece.Post
+piece-constant t c =
+    let a = c .before .before .before .before .before .before .before .args in
+    emits-constant (below-none (a .codes .now) (a .p) (a .q) (c .before .before .before .before .if1 .taken)) refl (c .before .before .emit-constant .ensures)
+
+piece-read : (t : ℕ) → emit-piece-lts.Need-shared-slice-read-x (emit-piece-calls t) (emit-piece-at t) emit-piece.Post
+piece-read t c = omega (arith, c .before .before .before .before .pre .1 .1, c .before .if1 .left)
+
+piece-variable : (t : ℕ) → emit-piece-lts.Need-returns-2 (emit-piece-calls t) (emit-piece-at t) emit-piece.Post
+piece-variable t c =
+    let a = c .before .before .before .before .before .before .before .before .before .before .before .args in
+    emits-code (over-variable (below-there (a .codes .now) (a .p) (a .q) (c .before .before .before .before .before .before .before .before .if1 .left) ∙ is-variable (record { word = refl; kind = c .before .before .before .before .before .before .kind .ensures }) (c .before .before .before .before .before .if2 .taken) .code) (c .before .before .before .field-a .ensures)) (c .before .before .before .before .before .before .before .before .before .before .before .pre .1 .0 .1)
+    (emits-over emits-none (c .before .before .emit-node .ensures))
 
 piece-emit : (t : ℕ) → emit-piece-lts.Need-emit-requires (emit-piece-calls t) (emit-piece-at t) emit-piece.Post
-piece-emit t c κs = (omega (arith, c .before .before .before .before .pre .0, c .before .if1 .left), (c .before .before .before .before .pre .1 .0, rw (below-there (c .before .before .before .before .args .codes .now) (c .before .before .before .before .args .p) (c .before .before .before .before .args .q) (c .before .if1 .left)) at (c .before .before .before .before .pre .1 .1)))
+piece-emit t c κs =
+    let a = c .before .before .before .before .before .before .before .args in
+    (omega (arith, c .before .before .before .before .before .before .before .pre .0, c .before .before .before .before .if1 .left), ((c .before .before .before .before .before .before .before .pre .1 .0 .0, rw (below-there (a .codes .now) (a .p) (a .q) (c .before .before .before .before .if1 .left)) at (c .before .before .before .before .before .before .before .pre .1 .0 .1)), (omega (arith, c .before .before .before .before .before .before .before .pre .1 .1, c .before .before .before .before .if1 .left), refl)))
 
-piece-returns-2 : (t : ℕ) → emit-piece-lts.Need-returns-2 (emit-piece-calls t) (emit-piece-at t) emit-piece.Post
-piece-returns-2 t c = rw (below-there (c .before .before .before .before .before .before .before .args .codes .now) (c .before .before .before .before .before .before .before .args .p) (c .before .before .before .before .before .before .before .args .q) (c .before .before .before .before .if1 .left)) (c .before .before .emit .ensures)
+piece-code : (t : ℕ) → emit-piece-lts.Need-returns-3 (emit-piece-calls t) (emit-piece-at t) emit-piece.Post
+piece-code t c =
+    let a = c .before .before .before .before .before .before .before .before .before .before .args in
+    rw (below-there (a .codes .now) (a .p) (a .q) (c .before .before .before .before .before .before .before .if1 .left)) (c .before .before .emit .ensures)
 
 -- ---- emit_three
 
@@ -221,19 +246,19 @@ three-first : (t : ℕ) → emit-three-lts.Need-emit-piece-requires (emit-three-
 three-first t c κs =
     let a = c .before .before .before .before .args in
     let self = codeBelow (a .codes .now) (a .p) in
-    (omega (arith, c .before .before .before .before .pre .0), (c .before .before .before .before .pre .1 .0, low-first self (a .k) (two (self (wordB (a .x))) (self (wordC (a .x)))) (c .before .field-a .ensures) (c .before .before .before .before .pre .1 .1)))
+    (omega (arith, c .before .before .before .before .pre .0), ((c .before .before .before .before .pre .1 .0 .0, low-first self (a .k) (two (self (wordB (a .x))) (self (wordC (a .x)))) (c .before .field-a .ensures) (c .before .before .before .before .pre .1 .0 .1)), c .before .before .before .before .pre .1 .1))
 
 three-second : (t : ℕ) → emit-three-lts.Need-emit-piece-requires-2 (emit-three-calls t) (emit-three-at t) emit-three.Post
 three-second t c κs =
     let a = c .before .before .before .before .before .before .before .before .before .args in
     let self = codeBelow (a .codes .now) (a .p) in
-    (omega (arith, c .before .before .before .before .before .before .before .before .before .pre .0), (c .before .before .before .before .before .before .before .before .before .pre .1 .0, low-first self (c .before .before .before .before .emit-piece .result + 1) (consC (self (wordC (a .x))) nilC) (c .before .field-b .ensures) (low-rest self (a .k) (two (self (wordB (a .x))) (self (wordC (a .x)))) (c .before .before .before .before .before .before .field-a .ensures) (c .before .before .before .before .before .before .before .before .before .pre .1 .1) (c .before .before .before .before .emit-piece .ensures .number))))
+    (omega (arith, c .before .before .before .before .before .before .before .before .before .pre .0), ((c .before .before .before .before .before .before .before .before .before .pre .1 .0 .0, low-first self (c .before .before .before .before .emit-piece .result + 1) (consC (self (wordC (a .x))) nilC) (c .before .field-b .ensures) (low-rest self (a .k) (two (self (wordB (a .x))) (self (wordC (a .x)))) (c .before .before .before .before .before .before .field-a .ensures) (c .before .before .before .before .before .before .before .before .before .pre .1 .0 .1) (c .before .before .before .before .emit-piece .ensures .number))), c .before .before .before .before .before .before .before .before .before .pre .1 .1))
 
 three-third : (t : ℕ) → emit-three-lts.Need-emit-piece-requires-3 (emit-three-calls t) (emit-three-at t) emit-three.Post
 three-third t c κs =
     let a = c .before .before .before .before .before .before .before .before .before .before .before .before .before .before .args in
     let self = codeBelow (a .codes .now) (a .p) in
-    (omega (arith, c .before .before .before .before .before .before .before .before .before .before .before .before .before .before .pre .0), (c .before .before .before .before .before .before .before .before .before .before .before .before .before .before .pre .1 .0, low-first self (c .before .before .before .before .emit-piece2 .result + 1) nilC (c .before .field-c .ensures) (low-rest self (c .before .before .before .before .before .before .before .before .before .emit-piece .result + 1) (consC (self (wordC (a .x))) nilC) (c .before .before .before .before .before .before .field-b .ensures) (low-rest self (a .k) (two (self (wordB (a .x))) (self (wordC (a .x)))) (c .before .before .before .before .before .before .before .before .before .before .before .field-a .ensures) (c .before .before .before .before .before .before .before .before .before .before .before .before .before .before .pre .1 .1) (c .before .before .before .before .before .before .before .before .before .emit-piece .ensures .number)) (c .before .before .before .before .emit-piece2 .ensures .number))))
+    (omega (arith, c .before .before .before .before .before .before .before .before .before .before .before .before .before .before .pre .0), ((c .before .before .before .before .before .before .before .before .before .before .before .before .before .before .pre .1 .0 .0, low-first self (c .before .before .before .before .emit-piece2 .result + 1) nilC (c .before .field-c .ensures) (low-rest self (c .before .before .before .before .before .before .before .before .before .emit-piece .result + 1) (consC (self (wordC (a .x))) nilC) (c .before .before .before .before .before .before .field-b .ensures) (low-rest self (a .k) (two (self (wordB (a .x))) (self (wordC (a .x)))) (c .before .before .before .before .before .before .before .before .before .before .before .field-a .ensures) (c .before .before .before .before .before .before .before .before .before .before .before .before .before .before .pre .1 .0 .1) (c .before .before .before .before .before .before .before .before .before .emit-piece .ensures .number)) (c .before .before .before .before .emit-piece2 .ensures .number))), c .before .before .before .before .before .before .before .before .before .before .before .before .before .before .pre .1 .1))
 
 over-three-returns : (t : ℕ) → emit-three-lts.Need-returns (emit-three-calls t) (emit-three-at t) emit-three.Post
 unfolding threeNode
@@ -247,16 +272,16 @@ two-first : (t : ℕ) → emit-two-lts.Need-emit-piece-requires (emit-two-calls 
 two-first t c κs =
     let a = c .before .before .before .before .args in
     let self = codeBelow (a .codes .now) (a .p) in
-    (omega (arith, c .before .before .before .before .pre .0), (c .before .before .before .before .pre .1 .0, low-first self (a .k) (consC (self (wordB (a .x))) nilC) (c .before .field-a .ensures) (c .before .before .before .before .pre .1 .1 .1)))
+    (omega (arith, c .before .before .before .before .pre .0), ((c .before .before .before .before .pre .1 .0 .0, low-first self (a .k) (consC (self (wordB (a .x))) nilC) (c .before .field-a .ensures) (c .before .before .before .before .pre .1 .0 .1)), c .before .before .before .before .pre .1 .1 .0))
 
 two-second : (t : ℕ) → emit-two-lts.Need-emit-piece-requires-2 (emit-two-calls t) (emit-two-at t) emit-two.Post
 two-second t c κs =
     let a = c .before .before .before .before .before .before .before .before .before .args in
     let self = codeBelow (a .codes .now) (a .p) in
-    (omega (arith, c .before .before .before .before .before .before .before .before .before .pre .0), (c .before .before .before .before .before .before .before .before .before .pre .1 .0, low-first self (c .before .before .before .before .emit-piece .result + 1) nilC (c .before .field-b .ensures) (low-rest self (a .k) (consC (self (wordB (a .x))) nilC) (c .before .before .before .before .before .before .field-a .ensures) (c .before .before .before .before .before .before .before .before .before .pre .1 .1 .1) (c .before .before .before .before .emit-piece .ensures .number))))
+    (omega (arith, c .before .before .before .before .before .before .before .before .before .pre .0), ((c .before .before .before .before .before .before .before .before .before .pre .1 .0 .0, low-first self (c .before .before .before .before .emit-piece .result + 1) nilC (c .before .field-b .ensures) (low-rest self (a .k) (consC (self (wordB (a .x))) nilC) (c .before .before .before .before .before .before .field-a .ensures) (c .before .before .before .before .before .before .before .before .before .pre .1 .0 .1) (c .before .before .before .before .emit-piece .ensures .number))), c .before .before .before .before .before .before .before .before .before .pre .1 .1 .0))
 
 two-kind : (t : ℕ) → emit-two-lts.Need-cast-emit-node (emit-two-calls t) (emit-two-at t) emit-two.Post
-two-kind t c = record { fits = omega (arith, c .before .before .before .kind .ensures, c .before .before .before .before .before .before .before .before .before .before .before .before .before .before .before .before .pre .1 .1 .0) }
+two-kind t c = record { fits = omega (arith, c .before .before .before .kind .ensures, c .before .before .before .before .before .before .before .before .before .before .before .before .before .before .before .before .pre .1 .1 .1) }
 
 over-two-returns : (t : ℕ) → emit-two-lts.Need-returns (emit-two-calls t) (emit-two-at t) emit-two.Post
 over-two-returns t c =
@@ -269,7 +294,6 @@ pub +emit+emit-piece+emit-three+emit-two-spec : {M : Type 1} → statement M
     close μ-emit μ-emit-piece μ-emit-three μ-emit-two
     (λ t.
     emit-lts.spec (emit-calls t) (emit-at t) emit.Post
-    (λ c κs. search needs)
     (λ c κs. search needs)
     (λ c κs. search needs)
     (λ c κs. search needs)
@@ -304,10 +328,17 @@ pub +emit+emit-piece+emit-three+emit-two-spec : {M : Type 1} → statement M
     emit-piece-lts.spec (emit-piece-calls t) (emit-piece-at t) emit-piece.Post
     (piece-room t)
     (λ c. search needs)
-    (piece-returns t)
+    (piece-constant t)
+    (λ c. search needs)
+    (piece-read t)
+    (λ c κs. search needs)
+    (λ c κs. search needs)
+    (λ c κs. search needs)
+    (λ c. search needs)
+    (piece-variable t)
     (piece-emit t)
     (λ c. search needs)
-    (piece-returns-2 t))
+    (piece-code t))
     (λ t.
     emit-three-lts.spec (emit-three-calls t) (emit-three-at t) emit-three.Post
     (λ c κs. search needs)

@@ -11,7 +11,7 @@ returns : tie.Need-returns
 returns c = λ s k i. finish-short s (inputRow (c .before .before .before .before .args .inputs .now)) (c .before .before .before .before .args .count) i (codeAt (c .before .before .before .before .args .codes .now) (c .before .before .before .before .args .p)) (c .before .before .before .before .pre .0) k (c .before .before .before .before .pre .1) (omega (arith, c .if1 .taken))
 
 write-code-requires : tie.Need-write-code-requires
-write-code-requires c κs = (omega (arith, c .before .before .before .before .before .pre .0), fits-small (codeAt (c .before .before .before .before .before .args .codes .now) (c .before .before .before .before .before .args .p)) (c .before .before .before .before .before .pre .0) (c .before .before .before .before .before .pre .1))
+write-code-requires c κs = ((omega (arith, c .before .before .before .before .before .pre .0), fits-small (codeAt (c .before .before .before .before .before .args .codes .now) (c .before .before .before .before .before .args .p)) (c .before .before .before .before .before .pre .0) (c .before .before .before .before .before .pre .1)), omega (arith, c .before .if1 .left))
 
 returns-2 : tie.Need-returns-2
 returns-2 c = λ s k i. finish-written s (inputRow (c .before .before .before .before .before .before .before .before .args .inputs .now)) (c .before .before .before .before .before .before .before .before .args .count) i (codeAt (c .before .before .before .before .before .before .before .before .args .codes .now) (c .before .before .before .before .before .before .before .before .args .p)) (c .before .before .before .before .before .before .before .before .pre .0) k (c .before .before .before .before .before .before .before .before .pre .1) (omega (arith, c .before .before .before .before .if1 .left)) (c .before .before .write-code .ensures s i)
