@@ -1,8 +1,7 @@
 -- Little-endian numbers are read as they were written and written as they were read; and where bytes stand in a longer list.
 -- Assumes nothing.
 use Prim.Native.Nat.{ℕ, zero, suc, _+_, _-_, _*_, _/_, _%_, _<_}
-use mathlib.Core.Path.{_≡_, refl, sym, ap, _∙_}
-use mathlib.Core.Bool.{Bool, true, false}
+use mathlib.Core.Path.{_≡_, sym, ap, _∙_}
 use mathlib.Core.List.{List, [], _∷_, _++_}
 use native.Mathlib.Omega.{arith}
 use native.Mathlib.Decide.{decLt}
@@ -10,10 +9,9 @@ use lib.IntN.{ℤ}
 use lib.Signed.{mag}
 use lib.ListN.{length, getD, length-append, List·getD-append}
 use lib.Seq.{getD-append-add, ext-getD}
-use lib.Dec.{ltb, lit<}
-use borrow.Author.Tests.{ltb-true, ltb-false}
-use Rattle.script.proofs.WordLaws.{bits-small, signed-bits}
-use Rattle.script.specs.Bytes.{byteAt, word16, word32, signedBy, signed32, bits32, bytes16, bytes32}
+use lib.Dec.{lit<}
+use Rattle.script.proofs.WordLaws.{bits-small, signed-bits, signed-both}
+use Rattle.script.specs.Bytes.{byteAt, word16, word32, signed32, bits32, bytes16, bytes32}
 use Rattle.file.specs.Encodable.{AllBytes}
 
 -- the bytes ys stand in bs from place o on
@@ -99,15 +97,6 @@ unfolding word16
 word16-small all o = omega (arith, all .below o, all .below (o + 1))
 
 -- ---- signed numbers of 32 bits
-
--- the bits of the number that w stands for are w, and it is within the range
-signed-both : (w : ℕ) → w < 4294967296 → (bits32 (signed32 w) ≡ w) × (mag (signed32 w) < 2147483648)
-unfolding signed32 signedBy bits32
-signed-both w h = by (ltb w 2147483648) refl
-  where
-    by : (t : Bool) → ltb w 2147483648 ≡ t → (bits32 (signedBy t w) ≡ w) × (mag (signedBy t w) < 2147483648)
-    by true e = (refl, ltb-true w 2147483648 e)
-    by false e = let l = ltb-false w 2147483648 e in (omega arith, omega arith)
 
 -- read as written
 pub word32-at : {bs : List ℕ} {o v : ℕ} → Stands bs o (bytes32 v) → v < 4294967296 → word32 bs o ≡ v

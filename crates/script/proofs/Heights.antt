@@ -15,7 +15,8 @@ use Rattle.lambdamix.specs.Limits.{maxHeight}
 use Rattle.lambdamix.specs.Falling.{guarded, below}
 use Rattle.lambdamix.specs.Structure.{firstBy, lowest, lowestBy}
 use Rattle.lambdamix.proofs.Falling.{below-at, falling-step}
-use Rattle.script.specs.Walks.{Columns, columnsIn, useAt, wordChildren, childrenAt, gathered, heightStep, heightAt, tooHighStep, tooHighAt, Tall, low, high, TallJoin, TallNode, TallOver}
+use Rattle.script.specs.Words.{Columns, columnsIn}
+use Rattle.script.specs.Walks.{useAt, wordChildren, childrenAt, gathered, heightStep, heightAt, tooHighStep, tooHighAt, Tall, low, high, TallJoin, TallNode, TallOver}
 
 pub lowest-none : (r : Option ℕ) → lowest r none ≡ r
 unfolding lowest

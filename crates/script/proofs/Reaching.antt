@@ -13,7 +13,8 @@ use Rattle.lambdamix.specs.Limits.{maxHeight}
 use Rattle.lambdamix.specs.Falling.{below}
 use Rattle.lambdamix.specs.Structure.{oneIf, occurrences, member, firstFailing}
 use Rattle.lambdamix.proofs.Falling.{below-at, falling-step}
-use Rattle.script.specs.Walks.{Columns, childrenAt, usesBelow, heightAt, tooHighStep, tooHighAt}
+use Rattle.script.specs.Words.{Columns}
+use Rattle.script.specs.Walks.{childrenAt, usesBelow, heightAt, tooHighStep, tooHighAt}
 use Rattle.script.proofs.Lowest.{Lowest, lowest-one, lowest-of, lowest-both, lowest-own, lowest-failing, lowest-gathered}
 
 -- j is a child of i

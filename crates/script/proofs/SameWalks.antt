@@ -15,8 +15,8 @@ use Rattle.lambdamix.proofs.Falling.{below-same, falling-step}
 use Rattle.script.specs.Kinds.{useOf, usesTable}
 use Rattle.script.specs.Tables.{Tables, rowNode, tablesScript}
 use Rattle.script.specs.Refusals.{nodeFits}
-use Rattle.script.specs.Words.{Packed}
-use Rattle.script.specs.Walks.{Columns, columnsOf, columnsIn, useAt, keptIf, childrenAt, usesBelow, usedOnceAt, heightStep, heightAt, tooHighStep, tooHighAt, unboundName, unboundUnder, unboundStep, unboundAt}
+use Rattle.script.specs.Words.{Packed, Columns, columnsIn}
+use Rattle.script.specs.Walks.{columnsOf, useAt, keptIf, childrenAt, usesBelow, usedOnceAt, heightStep, heightAt, tooHighStep, tooHighAt, unboundName, unboundUnder, unboundStep, unboundAt}
 use Rattle.script.proofs.FirstFailing.{first-same}
 use Rattle.script.proofs.Agreement.{structure-agrees}
 
@@ -33,8 +33,8 @@ falling-same {A} d f g n step (suc k) i h l =
 
 -- node i has the same kind, and, if that uses fields, the same fields
 record SameAt (x y : Columns) (i : ℕ) : Type 0 where
-  kind : x .kinds i ≡ y .kinds i
-  fields : (y .kinds i ≡ 0) ⊎ ((x .a i ≡ y .a i) × ((x .b i ≡ y .b i) × (x .c i ≡ y .c i)))
+  kind : x .kind i ≡ y .kind i
+  fields : (y .kind i ≡ 0) ⊎ ((x .a i ≡ y .a i) × ((x .b i ≡ y .b i) × (x .c i ≡ y .c i)))
 
 module _ {x y : Columns} {i : ℕ} where
   children-same : SameAt x y i → childrenAt x i ≡ childrenAt y i
@@ -42,7 +42,7 @@ module _ {x y : Columns} {i : ℕ} where
   children-same s =
       ⊎-elim (λ e. constant (s .kind ∙ e) e) (λ e. rw (s .kind, e .0, e .1 .0, e .1 .1)) (s .fields)
     where
-      constant : x .kinds i ≡ 0 → y .kinds i ≡ 0 → childrenAt x i ≡ childrenAt y i
+      constant : x .kind i ≡ 0 → y .kind i ≡ 0 → childrenAt x i ≡ childrenAt y i
       constant e f = rw (e, f)
 
   unbound-same :
@@ -51,7 +51,7 @@ module _ {x y : Columns} {i : ℕ} where
   unbound-same s n self xs =
       ⊎-elim (λ e. constant (s .kind ∙ e) e) (λ e. rw (children-same s, s .kind, e .0)) (s .fields)
     where
-      constant : x .kinds i ≡ 0 → y .kinds i ≡ 0 → unboundStep x n self i xs ≡ unboundStep y n self i xs
+      constant : x .kind i ≡ 0 → y .kind i ≡ 0 → unboundStep x n self i xs ≡ unboundStep y n self i xs
       constant e f = rw (children-same s, e, f)
 
 module _ (x y : Columns) (n : ℕ) (same : (i : ℕ) → i < n → SameAt x y i) where

@@ -14,8 +14,8 @@ use borrow.Author.Tests.{leb-true, leb-false, eq-eqb, ne-eqb}
 use Rattle.lambdamix.specs.Falling.{below}
 use Rattle.lambdamix.specs.Structure.{lowest, lowestBy, member}
 use Rattle.lambdamix.proofs.Falling.{below-at, falling-step}
-use Rattle.script.specs.Words.{wordA}
-use Rattle.script.specs.Walks.{Columns, columnsIn, useAt, keptIf, gathered, wordChildren, heightAt, unboundName, unboundUnder, unboundStep, unboundAt, innermost, Kept, Place, nowhere, node, Scoped}
+use Rattle.script.specs.Words.{wordA, Columns, columnsIn}
+use Rattle.script.specs.Walks.{useAt, keptIf, gathered, wordChildren, heightAt, unboundName, unboundUnder, unboundStep, unboundAt, innermost, Kept, Place, nowhere, node, Scoped}
 use Rattle.script.proofs.Shapes.{shape, wordShape}
 use Rattle.script.proofs.Heights.{lowest-none, below-out, word-children, word-height}
 

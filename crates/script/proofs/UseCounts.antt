@@ -13,7 +13,8 @@ use borrow.Author.Tests.{eqb-true, eqb-false, eq-eqb, ne-eqb}
 use Rattle.lambdamix.specs.Structure.{oneIf, occurrences}
 use Rattle.lambdamix.specs.declared.Use.{Use}
 use Rattle.script.specs.Kinds.{useOf}
-use Rattle.script.specs.Walks.{columnsIn, isChild, keptIf, rowChildren, wordChildren, usesBelow, Counted}
+use Rattle.script.specs.Words.{columnsIn}
+use Rattle.script.specs.Walks.{isChild, keptIf, rowChildren, wordChildren, usesBelow, Counted}
 use Rattle.script.proofs.Heights.{word-children}
 
 -- no node is counted

@@ -29,6 +29,15 @@ unfolding signed32 bits32 signedBy
 signed-bits (pos n) h = rw (lt-ltb n 2147483648 h)
 signed-bits (negsuc n) h = rw (le-ltb (4294967295 - n) 2147483648 (omega arith)) (ap negsuc (omega arith))
 
+-- the bits of the number that n stands for are n, and it has 32 bits
+pub signed-both : (n : ℕ) → n < 4294967296 → (bits32 (signed32 n) ≡ n) × Fits32 (signed32 n)
+unfolding signed32 signedBy bits32
+signed-both n h = by (ltb n 2147483648) refl
+  where
+    by : (t : Bool) → ltb n 2147483648 ≡ t → (bits32 (signedBy t n) ≡ n) × Fits32 (signedBy t n)
+    by true e = (refl, ltb-true n 2147483648 e)
+    by false e = let l = ltb-false n 2147483648 e in (omega arith, omega arith)
+
 -- ---- the word of a node
 
 module _ (k a b c : ℕ) (ha : a < 65536) (hb : b < 65536) (hc : c < 65536) where

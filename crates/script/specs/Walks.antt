@@ -5,6 +5,7 @@ use mathlib.Core.Path.{_≡_}
 use mathlib.Core.Bool.{Bool, true, false, _||_}
 use mathlib.Core.List.{List, [], _∷_}
 use mathlib.Core.Option.{Option, none, some}
+use lib.IntN.{pos}
 use lib.ListN.{getD, length}
 use lib.Dec.{leb, ltb, eqb}
 use Rattle.lambdamix.specs.declared.Use.{Use}
@@ -16,38 +17,23 @@ use Rattle.script.specs.declared.Verdict.{Verdict}
 use Rattle.script.specs.Kinds.{useOf}
 use Rattle.script.specs.Refusals.{nodeFits}
 use Rattle.script.specs.Tables.{Tables, rowNode, tablesScript}
-use Rattle.script.specs.Words.{wordKind, wordA, wordB, wordC, Packed}
+use Rattle.script.specs.Words.{wordKind, wordA, wordB, wordC, Columns, Packed}
 use Rattle.script.specs.Replies.{refusalOf}
 
--- what the structure reads of a node, by its number
-pub record Columns : Type 0 where
-  pub kinds : ℕ → ℕ
-  pub a : ℕ → ℕ
-  pub b : ℕ → ℕ
-  pub c : ℕ → ℕ
-
+-- the columns of tables
 abbrev pub columnsOf : Tables → Columns
 columnsOf x =
     record {
-      kinds = λ i. getD (x .kinds) i 0;
+      kind = λ i. getD (x .kinds) i 0;
       a = λ i. getD (x .a) i 0;
       b = λ i. getD (x .b) i 0;
       c = λ i. getD (x .c) i 0;
-    }
-
--- of nodes in words; the fields of a constant's word are parts of its value, and have no use
-abbrev pub columnsIn : List ℕ → Columns
-columnsIn ws =
-    record {
-      kinds = λ i. wordKind (getD ws i 0);
-      a = λ i. wordA (getD ws i 0);
-      b = λ i. wordB (getD ws i 0);
-      c = λ i. wordC (getD ws i 0);
+      value = λ i. getD (x .values) i (pos 0);
     }
 
 -- the use of a field of node i
 unfoldable pub useAt : Columns → ℕ → ℕ → Use
-useAt x i f = useOf (x .kinds i) f
+useAt x i f = useOf (x .kind i) f
 
 abbrev pub isChild : Use → Bool
 isChild Nothing = false

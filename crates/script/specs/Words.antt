@@ -26,6 +26,25 @@ wordC w = w % 65536
 unfoldable pub wordValue : ℕ → ℤ
 wordValue w = signed32 (w % 4294967296)
 
+-- what a walk or a run reads of each node, by its number
+pub record Columns : Type 0 where
+  pub kind : ℕ → ℕ
+  pub a : ℕ → ℕ
+  pub b : ℕ → ℕ
+  pub c : ℕ → ℕ
+  pub value : ℕ → ℤ
+
+-- the columns of nodes in words; the fields of a constant's word are parts of its value, and have no use
+abbrev pub columnsIn : List ℕ → Columns
+columnsIn ws =
+    record {
+      kind = λ i. wordKind (getD ws i 0);
+      a = λ i. wordA (getD ws i 0);
+      b = λ i. wordB (getD ws i 0);
+      c = λ i. wordC (getD ws i 0);
+      value = λ i. wordValue (getD ws i 0);
+    }
+
 -- The word holds the node: its kind, and of a constant the value, of any other node the fields.
 pub record Holds (w : ℕ) (d : Node) : Type 0 where
   pub kind : wordKind w ≡ d .kind

@@ -10,7 +10,7 @@ pub const MAX_NODES: usize = 4096;
 
 pub const MAX_HEIGHT: usize = 256;
 
-// A script of so few nodes is checked in arrays of this length: to clear those for MAX_NODES takes as long as to check it.
+// A script of at most so many nodes is checked in arrays of this length: to clear longer ones could take as long as the check.
 pub const FEW_NODES: usize = 256;
 
 // "64 listed types, 16 inputs, 1 to 4,096 nodes"

@@ -28,8 +28,8 @@ ghost use Rattle.lambdamix.specs.Limits.{maxNodes, maxHeight};
 ghost use Rattle.lambdamix.specs.Falling.{below};
 ghost use Rattle.lambdamix.specs.Structure.{occurrences, firstFailing, member, refusedAt, orElse};
 ghost use Rattle.script.specs.Replies.{foundAt, refusalOf};
-ghost use Rattle.script.specs.Words.{wordA, wordB, wordC};
-ghost use Rattle.script.specs.Walks.{columnsIn, isChild, keptIf, rowChildren, wordChildren, usesBelow, usedOnceAt, Counted, heightAt, tooHighAt, Tall, TallOver, TallJoin, TallNode, unboundName, unboundAt, innermost, Place, Scoped, Structured};
+ghost use Rattle.script.specs.Words.{wordA, wordB, wordC, columnsIn};
+ghost use Rattle.script.specs.Walks.{isChild, keptIf, rowChildren, wordChildren, usesBelow, usedOnceAt, Counted, heightAt, tooHighAt, Tall, TallOver, TallJoin, TallNode, unboundName, unboundAt, innermost, Place, Scoped, Structured};
 
 // The highest tree.
 const HIGHEST: u32 = MAX_HEIGHT as u32;

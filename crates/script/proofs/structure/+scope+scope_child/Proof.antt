@@ -8,7 +8,8 @@ use borrow.Fn.Kinds.{In}
 use borrow.Fn.PlainCycle.{Measures, is, falls, and}
 use Rattle.lambdamix.specs.Limits.{maxHeight}
 use Rattle.lambdamix.proofs.Falling.{below-at}
-use Rattle.script.specs.Walks.{columnsIn, heightAt}
+use Rattle.script.specs.Words.{columnsIn}
+use Rattle.script.specs.Walks.{heightAt}
 use Rattle.script.proofs.Shapes.{at-variable, at-one, at-under, at-two, at-three, at-leaf, kids}
 use Rattle.script.proofs.Scopes.{scoped-child, scoped-stray, scoped-none, scoped-last, scoped-more, scoped-plain, scoped-binder, scoped-variable, room-own, room-first, room-second, room-third}
 use Rattle.script.proofs.structure.scope.Reads as scope

@@ -4,7 +4,7 @@ use Prim.Native.Nat.{ℕ, _<_, _+_}
 use native.Mathlib.Omega.{arith}
 use borrow.Fn.Kinds.{In}
 use borrow.Fn.PlainCycle.{Measures, is, falls, and}
-use Rattle.script.specs.Walks.{columnsIn}
+use Rattle.script.specs.Words.{columnsIn}
 use Rattle.script.proofs.Shapes.{at-one, at-under, at-two, at-three, childless, kids}
 use Rattle.script.proofs.Heights.{tall-node, tall-stray, over-none, over-last, over-more}
 use Rattle.script.proofs.Heights as heights

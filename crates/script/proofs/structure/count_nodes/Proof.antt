@@ -3,7 +3,8 @@ use borrow.Author.Needs.{needs}
 use Prim.Native.Nat.{_≤_, _-_}
 use mathlib.Core.Path.{_≡_, sym}
 use native.Mathlib.Omega.{arith}
-use Rattle.script.specs.Walks.{columnsIn, usesBelow, Counted}
+use Rattle.script.specs.Words.{columnsIn}
+use Rattle.script.specs.Walks.{usesBelow, Counted}
 use Rattle.script.proofs.UseCounts.{counted-none, counted-node}
 use Rattle.script.proofs.structure.count_nodes.Statement.{statement}
 use Rattle.script.proofs.structure.count_nodes.Tie as tie
