@@ -14,7 +14,7 @@ use Rattle.script.proofs.RefusalLaws.{neither}
 use Rattle.annotation.specs.Checks.{checkRefusal}
 
 -- `check` accepts counts and tables exactly when none of 1 to 8 holds of them and the rules of Figure 4, with the types that the
--- script lists, make the root dynamic (late).
+-- script lists, make the root dynamic.
 pub check-accepts :
     (t i n : ℕ) (x : Tables) →
     (checkRefusal t i n x ≡ none)

@@ -23,7 +23,7 @@ use Rattle.script.proofs.RefusalLaws.{neither}
 use Rattle.annotation.specs.Answers.{scriptOf, Passes, pick, meaning, Stands, rootAnswer}
 use Rattle.annotation.specs.Walks.{Lists, Lent, Bottom, Binds, Answers, Annotated}
 use Rattle.annotation.proofs.Passing.{Sound, passes-sound, type-count, input-count, node-count, type-row, input-row, node-row}
-use Rattle.annotation.proofs.TypeNumbers.{View, early, late, arrow, view}
+use Rattle.annotation.proofs.TypeNumbers.{View, static, dynamic, arrow, view}
 use Rattle.annotation.proofs.Contexts.{inputs-bound}
 
 -- the answer at the root, and what it stands for
@@ -37,8 +37,8 @@ root-stands s ok i r p =
     by-view :
         {u : Ty} → View s (r % 65536) u →
         pick (eqb (r % 65536) 1) none (some (record { number = 11; place = i })) ≡ rootRule i (typed u)
-    by-view (early e) = rw e
-    by-view (late e) = rw e
+    by-view (static e) = rw e
+    by-view (dynamic e) = rw e
     by-view (arrow j e l) = rw (ne-eqb (r % 65536) 1 (λ w. omega arith))
 
 module _ (n : Counts) (x : Tables) (ok : Passes n x) where

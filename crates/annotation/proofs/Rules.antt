@@ -13,7 +13,7 @@ use Rattle.lambdamix.specs.Script.{Script, Node, rows, blankRow, nodeCount}
 use Rattle.lambdamix.specs.Term.{Terms, arity, childAt, build}
 use Rattle.lambdamix.specs.Types.{Ty, typeOf, typeCount}
 use Rattle.lambdamix.specs.Typing.{Context}
-use Rattle.lambdamix.specs.Checker.{Checked, typed, both, gather, rule, own, provided, applyRule, fixRule, abstrBy, abstrRule, dynRule, check, checkAll}
+use Rattle.lambdamix.specs.Checker.{Checked, both, gather, rule, own, provided, applyRule, fixRule, abstrBy, abstrRule, dynRule, check, checkAll}
 use Rattle.lambdamix.proofs.Tests.{holds-or-fails}
 use Rattle.annotation.specs.Answers.{Stands, givenBy, lowest}
 use Rattle.annotation.specs.Walks.{Lent, Listing, listed-at, not-listed, OneChild, lifts, fixes, fixes-dynamic, TwoChildren, applies, operates, applies-dynamic, operates-dynamic, ThreeChildren, chooses, chooses-dynamic, Stand, none-left, and-then, BinderRuled}
@@ -114,11 +114,11 @@ module _ {s : Script} {words ls : List ℕ} (lent : Lent s words ls) (Γ : Conte
   one-fault fixes l (and-then p none-left) = told-rule s i _ (told p) l
   one-fault fixes-dynamic l (and-then p none-left) = told-rule s i _ (told-gather (told-alone (told p) _)) l
 
-  late-two-fault :
+  dynamic-two-fault :
       {e f : ℕ} {ts : Terms} → lowest e f < 1048576 → Stand s Γ (e ∷ f ∷ []) ts →
       Stands s (lowest e f) (rule i (dynRule 2) (checkAll s Γ ts))
   unfolding checkAll
-  late-two-fault l (and-then p (and-then q none-left)) =
+  dynamic-two-fault l (and-then p (and-then q none-left)) =
       told-rule s i _ (told-gather (told-both (told p) (told-gather (told-alone (told q) _)))) l
 
   pub two-fault :
@@ -126,8 +126,8 @@ module _ {s : Script} {words ls : List ℕ} (lent : Lent s words ls) (Γ : Conte
   unfolding rows build childAt check arity
   two-fault applies l (and-then p (and-then q none-left)) = told-rule s i _ (told-both (told p) (told q)) l
   two-fault operates l (and-then p (and-then q none-left)) = told-rule s i _ (told-both (told p) (told q)) l
-  two-fault applies-dynamic l st = late-two-fault l st
-  two-fault operates-dynamic l st = late-two-fault l st
+  two-fault applies-dynamic l st = dynamic-two-fault l st
+  two-fault operates-dynamic l st = dynamic-two-fault l st
 
   pub three-fault :
       {k e f g : ℕ} {ts : Terms} → ThreeChildren k → lowest e (lowest f g) < 1048576 → Stand s Γ (e ∷ f ∷ g ∷ []) ts →
@@ -186,11 +186,11 @@ module _ {s : Script} {words ls : List ℕ} (lent : Lent s words ls) (Γ : Conte
       rw (typed-answer p l, typed-answer q m, op-numbers s (ok lent i h) (e % 65536) (f % 65536) (p .known l) (q .known m))
       (given-stands s (ok lent i h) _ 0 i (small lent i h) (λ _. omega arith))
 
-  late-two-types :
+  dynamic-two-rule :
       {e f : ℕ} {ts : Terms} → 1048576 ≤ e → 1048576 ≤ f → Stand s Γ (e ∷ f ∷ []) ts →
       Stands s (givenBy (eqb (e % 65536) 1 && eqb (f % 65536) 1) 1 i) (rule i (dynRule 2) (checkAll s Γ ts))
   unfolding checkAll both gather rule typeCount
-  late-two-types {e} {f} l m (and-then p (and-then q none-left)) =
+  dynamic-two-rule {e} {f} l m (and-then p (and-then q none-left)) =
       rw (typed-answer p l, typed-answer q m, dynamic-two s (ok lent i h) (e % 65536) (f % 65536) (p .known l) (q .known m))
       (given-stands s (ok lent i h) _ 1 i (small lent i h) (λ _. omega arith))
 
@@ -200,8 +200,8 @@ module _ {s : Script} {words ls : List ℕ} (lent : Lent s words ls) (Γ : Conte
   unfolding rows build check arity
   dynamic-two-type applies a b l m st = absurd (a refl)
   dynamic-two-type operates a b l m st = absurd (b refl)
-  dynamic-two-type applies-dynamic a b l m st = late-two-types l m st
-  dynamic-two-type operates-dynamic a b l m st = late-two-types l m st
+  dynamic-two-type applies-dynamic a b l m st = dynamic-two-rule l m st
+  dynamic-two-type operates-dynamic a b l m st = dynamic-two-rule l m st
 
   pub if-type :
       {e f g : ℕ} {ts : Terms} → 1048576 ≤ e → 1048576 ≤ f → 1048576 ≤ g → Stand s Γ (e ∷ f ∷ g ∷ []) ts →

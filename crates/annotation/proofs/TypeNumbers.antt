@@ -73,8 +73,8 @@ pair s j = getD (s .types) j blankType
 
 -- what a number stands for
 pub data View (s : Script) (k : ℕ) : Ty → Type 0 where
-  early : k ≡ 0 → View s k S
-  late : k ≡ 1 → View s k D
+  static : k ≡ 0 → View s k S
+  dynamic : k ≡ 1 → View s k D
   arrow : (j : ℕ) → k ≡ 2 + j → j < length (s .types) → View s k (typeOf s (pair s j .parameter) ⇒ typeOf s (pair s j .result))
 
 module _ (s : Script) (ok : Sound s) where
@@ -104,8 +104,8 @@ module _ (s : Script) (ok : Sound s) where
 
   pub view : (k : ℕ) → k < typeCount s → View s k (typeOf s k)
   unfolding typeCount
-  view zero h = rw type-zero (early refl)
-  view (suc zero) h = rw type-one (late refl)
+  view zero h = rw type-zero (static refl)
+  view (suc zero) h = rw type-one (dynamic refl)
   view (suc (suc j)) h =
       let e : suc (suc j) ≡ 2 + j = omega arith in
       rw (e, function-type j (omega arith)) (arrow j refl (omega arith))
@@ -127,14 +127,14 @@ module _ (s : Script) (ok : Sound s) where
       ((p q : ℕ) → p < g → p < typeCount s → q < typeCount s → sameType (typeOf s p) (typeOf s q) ≡ true → p ≡ q) →
       {j k : ℕ} {t u : Ty} → j ≤ g → View s j t → View s k u → sameType t u ≡ true → j ≡ k
   unfolding sameType typeCount
-  same-views g ih h (early e) (early f) q = e ∙ sym f
-  same-views g ih h (early e) (late f) q = false-true q
-  same-views g ih h (early e) (arrow j f l) q = false-true q
-  same-views g ih h (late e) (early f) q = false-true q
-  same-views g ih h (late e) (late f) q = e ∙ sym f
-  same-views g ih h (late e) (arrow j f l) q = false-true q
-  same-views g ih h (arrow i e m) (early f) q = false-true q
-  same-views g ih h (arrow i e m) (late f) q = false-true q
+  same-views g ih h (static e) (static f) q = e ∙ sym f
+  same-views g ih h (static e) (dynamic f) q = false-true q
+  same-views g ih h (static e) (arrow j f l) q = false-true q
+  same-views g ih h (dynamic e) (static f) q = false-true q
+  same-views g ih h (dynamic e) (dynamic f) q = e ∙ sym f
+  same-views g ih h (dynamic e) (arrow j f l) q = false-true q
+  same-views g ih h (arrow i e m) (static f) q = false-true q
+  same-views g ih h (arrow i e m) (dynamic f) q = false-true q
   same-views g ih h (arrow i e m) (arrow j f l) q =
       let (a, b) = and-both (sameType (typeOf s (pair s i .parameter)) (typeOf s (pair s j .parameter))) _ q in
       let (c, d) = parts i m in
@@ -168,8 +168,8 @@ module _ (s : Script) (ok : Sound s) where
       same-tests _ _ (λ e. let (k, h, q) = which-type (typeOf s) (2 + length (s .types)) (typeOf s p ⇒ typeOf s r) e in refuted (view k h) q) (λ e. false-true e)
     where
       refuted : {k : ℕ} {t : Ty} → View s k t → sameType t (typeOf s p ⇒ typeOf s r) ≡ true → false ≡ true
-      refuted (early e) q = q
-      refuted (late e) q = q
+      refuted (static e) q = q
+      refuted (dynamic e) q = q
       refuted (arrow j e h) q =
           let (a, b) = and-both (sameType (typeOf s (pair s j .parameter)) (typeOf s p)) _ q in
           let (c, d) = parts j h in
@@ -187,8 +187,8 @@ module _ (s : Script) (ok : Sound s) where
           {t : Ty} → View s f t →
           applyRule t (typeOf s x)
           ≡ provided (leb 2 f && eqb (pair s (f - 2) .parameter) x) (typeOf s (pair s (f - 2) .result))
-      by-view (early e) = rw (lt-leb 2 f (omega arith))
-      by-view (late e) = rw (lt-leb 2 f (omega arith))
+      by-view (static e) = rw (lt-leb 2 f (omega arith))
+      by-view (dynamic e) = rw (lt-leb 2 f (omega arith))
       by-view (arrow j e m) =
           let a : f - 2 ≡ j = omega arith in
           let (p, q) = parts j m in
@@ -207,8 +207,8 @@ module _ (s : Script) (ok : Sound s) where
       by-parameter :
           (p r : ℕ) → p < typeCount s → r < typeCount s → {t : Ty} → View s p t → t ≡ typeOf s p →
           fixRule (t ⇒ typeOf s r) ≡ provided (leb 2 p && eqb p r) t
-      by-parameter p r m l (early e) w = rw (lt-leb 2 p (omega arith))
-      by-parameter p r m l (late e) w = rw (lt-leb 2 p (omega arith))
+      by-parameter p r m l (static e) w = rw (lt-leb 2 p (omega arith))
+      by-parameter p r m l (dynamic e) w = rw (lt-leb 2 p (omega arith))
       by-parameter p r m l (arrow j e k) w = rw (le-leb 2 p (omega arith), w, same-number p r m l)
 
       by-view :
@@ -217,16 +217,16 @@ module _ (s : Script) (ok : Sound s) where
           ≡ provided
           (leb 2 f && (leb 2 (pair s (f - 2) .parameter) && eqb (pair s (f - 2) .parameter) (pair s (f - 2) .result)))
           (typeOf s (pair s (f - 2) .parameter))
-      by-view (early e) = rw (lt-leb 2 f (omega arith))
-      by-view (late e) = rw (lt-leb 2 f (omega arith))
+      by-view (static e) = rw (lt-leb 2 f (omega arith))
+      by-view (dynamic e) = rw (lt-leb 2 f (omega arith))
       by-view (arrow j e m) =
           let a : f - 2 ≡ j = omega arith in
           let (p, q) = parts j m in
           rw (le-leb 2 f (omega arith), a) (by-parameter _ _ (omega arith) (omega arith) (view (pair s j .parameter) (omega arith)) refl)
 
-  same-early : (t : ℕ) → t < typeCount s → sameType (typeOf s t) S ≡ eqb t 0
+  same-static : (t : ℕ) → t < typeCount s → sameType (typeOf s t) S ≡ eqb t 0
   unfolding typeCount
-  same-early t h = rw (← type-zero s) (same-number t 0 h (omega arith))
+  same-static t h = rw (← type-zero s) (same-number t 0 h (omega arith))
 
   same-dynamic : (t : ℕ) → t < typeCount s → sameType (typeOf s t) D ≡ eqb t 1
   unfolding typeCount
@@ -235,21 +235,21 @@ module _ (s : Script) (ok : Sound s) where
   -- (Lift), (If) and (Op) on numbers
   pub lift-numbers : (t : ℕ) → t < typeCount s → liftRule (typeOf s t) ≡ provided (eqb t 0) (typeOf s 1)
   unfolding liftRule
-  lift-numbers t h = rw (same-early t h, type-one s)
+  lift-numbers t h = rw (same-static t h, type-one s)
 
   pub if-numbers :
       (c t u : ℕ) → c < typeCount s → t < typeCount s → u < typeCount s →
       ifRule (typeOf s c) (typeOf s t) (typeOf s u) ≡ provided (eqb c 0 && eqb t u) (typeOf s t)
   unfolding ifRule
-  if-numbers c t u h k l = rw (same-early c h, same-number t u k l)
+  if-numbers c t u h k l = rw (same-static c h, same-number t u k l)
 
   pub op-numbers :
       (t u : ℕ) → t < typeCount s → u < typeCount s →
       opRule (typeOf s t) (typeOf s u) ≡ provided (eqb t 0 && eqb u 0) (typeOf s 0)
   unfolding opRule
-  op-numbers t u h k = rw (same-early t h, same-early u k, type-zero s)
+  op-numbers t u h k = rw (same-static t h, same-static u k, type-zero s)
 
-  -- the late kinds' rules on numbers
+  -- the dynamic kinds' rules on numbers
   pub dynamic-one : (t : ℕ) → t < typeCount s → dynRule 1 (typeOf s t ∷ []) ≡ provided (eqb t 1) (typeOf s 1)
   unfolding dynRule allDynamic
   dynamic-one t h = rw (same-dynamic t h, and-true (eqb t 1), type-one s)

@@ -3,7 +3,6 @@ use borrow.Author.Needs.{needs}
 use Prim.Native.Nat.{_-_, _≤_}
 use mathlib.Core.Path.{_≡_}
 use native.Mathlib.Omega.{arith}
-use lib.ListN.{length}
 use Rattle.annotation.proofs.Filling.{Binding, none-bound, one-bound, all-bound}
 use Rattle.annotation.proofs.typing.bind_inputs.Statement.{statement}
 use Rattle.annotation.proofs.typing.bind_inputs.Tie as tie

@@ -3,7 +3,6 @@ use borrow.Author.Needs.{needs}
 use Prim.Native.Nat.{_-_, _≤_}
 use mathlib.Core.Path.{_≡_}
 use native.Mathlib.Omega.{arith}
-use lib.ListN.{length}
 use Rattle.annotation.proofs.Filling.{Packing, none-packed, one-packed, all-packed}
 use Rattle.annotation.proofs.typing.pack_types.Statement.{statement}
 use Rattle.annotation.proofs.typing.pack_types.Tie as tie
