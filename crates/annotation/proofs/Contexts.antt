@@ -10,12 +10,13 @@ use native.Mathlib.Numerals.{add-one}
 use lib.ListN.{length, getD, set, length-set}
 use lib.Seq.{getD-set-same, getD-set-other}
 use borrow.Author.Tests.{leb-true, lt-ltb, le-ltb}
+use Rattle.lambdamix.specs.Limits.{maxTypes}
 use Rattle.lambdamix.specs.Script.{Script}
 use Rattle.lambdamix.specs.Types.{Ty, typeOf, typeCount}
 use Rattle.lambdamix.specs.Typing.{Context, bind, typeAt, typeAtBy, inputType, inputTypeBy, contextFrom, inputContext}
 use Rattle.lambdamix.specs.Checker.{typed, faulty, own, provided, varRule}
 use Rattle.script.specs.Refusals.{inputFits}
-use Rattle.annotation.specs.Answers.{pick, typeAnswer, faultAnswer, meaning, Stands, givenBy}
+use Rattle.annotation.specs.Answers.{pick, limit16, faultLimit, faultAnswer, typeBase, typeAnswer, typeIn, meaning, Stands, givenBy}
 use Rattle.annotation.specs.Walks.{Pair, Binds, no-binder, one-more, bound, Agree, Pushed}
 use Rattle.annotation.proofs.Passing.{Sound}
 use Rattle.annotation.proofs.TypeNumbers.{type-zero, type-one}
@@ -24,23 +25,23 @@ use Rattle.annotation.proofs.TypeNumbers.{type-zero, type-one}
 
 module _ (s : Script) (ok : Sound s) where
   pub type-stands : (t : ℕ) → t < typeCount s → Stands s (typeAnswer t) (typed (typeOf s t))
-  unfolding meaning typeCount
+  unfolding meaning typeCount maxTypes
   type-stands t h =
       let few = ok .few-types in
-      let e : (1048576 + t) % 65536 ≡ t = omega arith in
-      record { said = rw (le-ltb (1048576 + t) 1048576 (omega arith), e); known = λ _. omega arith }
+      let e : typeIn (typeAnswer t) ≡ t = omega arith in
+      record { said = rw (le-ltb (typeAnswer t) typeBase (omega arith), e); known = λ _. omega arith }
 
 pub fault-stands :
-    (s : Script) (k i : ℕ) → k < 16 → i < 65536 → Stands s (faultAnswer k i) (faulty (record { number = k; place = i }))
+    (s : Script) (k i : ℕ) → k < faultLimit → i < limit16 → Stands s (faultAnswer k i) (faulty (record { number = k; place = i }))
 unfolding meaning
 fault-stands s k i h l =
-    let e : (16 * i + k) / 16 ≡ i = omega arith in
-    let f : (16 * i + k) % 16 ≡ k = omega arith in
-    record { said = rw (lt-ltb (16 * i + k) 1048576 (omega arith), e, f); known = λ m. let z : ⊥ = omega arith in absurd z }
+    let e : faultAnswer k i / faultLimit ≡ i = omega arith in
+    let f : faultAnswer k i % faultLimit ≡ k = omega arith in
+    record { said = rw (lt-ltb (faultAnswer k i) typeBase (omega arith), e, f); known = λ m. let z : ⊥ = omega arith in absurd z }
 
 -- the answer by a test stands for the rule by that test
 pub given-stands :
-    (s : Script) → Sound s → (b : Bool) (t i : ℕ) → i < 65536 → (b ≡ true → t < typeCount s) →
+    (s : Script) → Sound s → (b : Bool) (t i : ℕ) → i < limit16 → (b ≡ true → t < typeCount s) →
     Stands s (givenBy b t i) (own i (provided b (typeOf s t)))
 unfolding own provided
 given-stands s ok true t i l h = type-stands s ok t (h refl)
@@ -131,7 +132,7 @@ chosen-stands s false e f i t u p q = q
 
 -- Theorem: what is found for a name among the binders stands for the rule of a variable.
 pub bound-stands :
-    (s : Script) → Sound s → (i y : ℕ) → i < 65536 → {binders : List ℕ} {d : ℕ} {Γ : Context} → Binds s binders d Γ →
+    (s : Script) → Sound s → (i y : ℕ) → i < limit16 → {binders : List ℕ} {d : ℕ} {Γ : Context} → Binds s binders d Γ →
     Stands s (bound binders y i d) (own i (varRule (typeAt Γ y)))
 unfolding bound typeAt own varRule
 bound-stands s ok i y l no-binder = fault-stands s 9 i (omega arith) l

@@ -1,5 +1,5 @@
 -- A fault among the children's answers goes first, the lowest of several. Assumes nothing.
-use Prim.Native.Nat.{ℕ, _/_, _%_, _≤_, _<_}
+use Prim.Native.Nat.{ℕ, _/_, _≤_, _<_}
 use mathlib.Core.Path.{_≡_, refl, _∙_, sym, ap}
 use mathlib.Core.Bool.{Bool, true, false}
 use mathlib.Core.Logic.{⊎-elim}
@@ -11,7 +11,7 @@ use Rattle.lambdamix.specs.Script.{Script}
 use Rattle.lambdamix.specs.Types.{Ty, typeOf}
 use Rattle.lambdamix.specs.Checker.{Checked, typed, faulty, lowerBy, lower, both, Verdict, rule, gather}
 use Rattle.lambdamix.proofs.Tests.{holds-or-fails}
-use Rattle.annotation.specs.Answers.{pick, refusalIn, meaning, Stands, lowest}
+use Rattle.annotation.specs.Answers.{pick, faultLimit, refusalIn, typeBase, typeIn, meaning, Stands, lowest}
 
 -- some answer that is no fault
 pub data Right {A : Type 0} : Checked A → Type 0 where
@@ -19,22 +19,22 @@ pub data Right {A : Type 0} : Checked A → Type 0 where
 
 -- the answer m tells the fault of x, if there is one
 pub record Told {A : Type 0} (m : ℕ) (x : Checked A) : Type 0 where
-  pub fault : m < 1048576 → x ≡ faulty (refusalIn m)
-  pub no-fault : 1048576 ≤ m → Right x
+  pub fault : m < typeBase → x ≡ faulty (refusalIn m)
+  pub no-fault : typeBase ≤ m → Right x
 
 pub told : {s : Script} {e : ℕ} {x : Checked Ty} → Stands s e x → Told e x
 unfolding meaning
 told {s} {e} {x} p =
     record {
-      fault = λ h. sym (p .said) ∙ rw (lt-ltb e 1048576 h);
-      no-fault = λ h. rw (← p .said, le-ltb e 1048576 h) (right (typeOf s _));
+      fault = λ h. sym (p .said) ∙ rw (lt-ltb e typeBase h);
+      no-fault = λ h. rw (← p .said, le-ltb e typeBase h) (right (typeOf s _));
     }
 
 -- what an answer that is no fault stands for
 pub typed-answer :
-    {s : Script} {e : ℕ} {x : Checked Ty} → Stands s e x → 1048576 ≤ e → x ≡ typed (typeOf s (e % 65536))
+    {s : Script} {e : ℕ} {x : Checked Ty} → Stands s e x → typeBase ≤ e → x ≡ typed (typeOf s (typeIn e))
 unfolding meaning
-typed-answer {s} {e} p h = sym (p .said) ∙ rw (le-ltb e 1048576 h)
+typed-answer {s} {e} p h = sym (p .said) ∙ rw (le-ltb e typeBase h)
 
 module _ {A : Type 0} {m : ℕ} {x : Checked A} (p : Told m x) where
   pub told-alone : {B : Type 0} (b : B) → Told m (both x (typed b))
@@ -65,33 +65,33 @@ one-of P true e f p q = p
 one-of P false e f p q = q
 
 module _ {A B : Type 0} {e f : ℕ} {x : Checked A} {y : Checked B} (p : Told e x) (q : Told f y) where
-  two-faults : e < 1048576 → f < 1048576 → Told (lowest e f) (both x y)
+  two-faults : e < typeBase → f < typeBase → Told (lowest e f) (both x y)
   unfolding lowest both lower
   two-faults h k =
-      let l : lowest e f < 1048576 = one-of (λ m. m < 1048576) (leb (e / 16) (f / 16)) e f h k in
+      let l : lowest e f < typeBase = one-of (λ m. m < typeBase) (leb (e / faultLimit) (f / faultLimit)) e f h k in
       record {
         fault = λ _. rw (p .fault h, q .fault k) (ap faulty (lower-place _ e f));
         no-fault = λ m. let z : ⊥ = omega arith in absurd z;
       }
 
-  first-fault : e < 1048576 → 1048576 ≤ f → Told (lowest e f) (both x y)
+  first-fault : e < typeBase → typeBase ≤ f → Told (lowest e f) (both x y)
   unfolding lowest both
   first-fault h k =
       elim (q .no-fault k) [
-        | right b ↦ rw (le-leb (e / 16) (f / 16) (omega arith)) (record { fault = λ _. rw (p .fault h); no-fault = λ m. let z : ⊥ = omega arith in absurd z })
+        | right b ↦ rw (le-leb (e / faultLimit) (f / faultLimit) (omega arith)) (record { fault = λ _. rw (p .fault h); no-fault = λ m. let z : ⊥ = omega arith in absurd z })
       ]
 
-  second-fault : 1048576 ≤ e → f < 1048576 → Told (lowest e f) (both x y)
+  second-fault : typeBase ≤ e → f < typeBase → Told (lowest e f) (both x y)
   unfolding lowest both
   second-fault h k =
       elim (p .no-fault h) [
-        | right a ↦ rw (lt-leb (e / 16) (f / 16) (omega arith)) (record { fault = λ _. rw (q .fault k); no-fault = λ m. let z : ⊥ = omega arith in absurd z })
+        | right a ↦ rw (lt-leb (e / faultLimit) (f / faultLimit) (omega arith)) (record { fault = λ _. rw (q .fault k); no-fault = λ m. let z : ⊥ = omega arith in absurd z })
       ]
 
-  no-faults : 1048576 ≤ e → 1048576 ≤ f → Told (lowest e f) (both x y)
+  no-faults : typeBase ≤ e → typeBase ≤ f → Told (lowest e f) (both x y)
   unfolding lowest both
   no-faults h k =
-      let l : 1048576 ≤ lowest e f = one-of (λ m. 1048576 ≤ m) (leb (e / 16) (f / 16)) e f h k in
+      let l : typeBase ≤ lowest e f = one-of (λ m. typeBase ≤ m) (leb (e / faultLimit) (f / faultLimit)) e f h k in
       elim (p .no-fault h) [
         | right a ↦ elim (q .no-fault k) [
           | right b ↦ record { fault = λ m. let z : ⊥ = omega arith in absurd z; no-fault = λ _. right (a, b) }
@@ -102,20 +102,20 @@ module _ {A B : Type 0} {e f : ℕ} {x : Checked A} {y : Checked B} (p : Told e 
   pub told-both : Told (lowest e f) (both x y)
   told-both =
       ⊎-elim
-      (λ a. ⊎-elim (λ b. two-faults (ltb-true _ _ a) (ltb-true _ _ b)) (λ b. first-fault (ltb-true _ _ a) (ltb-false _ _ b)) (holds-or-fails (ltb f 1048576)))
-      (λ a. ⊎-elim (λ b. second-fault (ltb-false _ _ a) (ltb-true _ _ b)) (λ b. no-faults (ltb-false _ _ a) (ltb-false _ _ b)) (holds-or-fails (ltb f 1048576)))
-      (holds-or-fails (ltb e 1048576))
+      (λ a. ⊎-elim (λ b. two-faults (ltb-true _ _ a) (ltb-true _ _ b)) (λ b. first-fault (ltb-true _ _ a) (ltb-false _ _ b)) (holds-or-fails (ltb f typeBase)))
+      (λ a. ⊎-elim (λ b. second-fault (ltb-false _ _ a) (ltb-true _ _ b)) (λ b. no-faults (ltb-false _ _ a) (ltb-false _ _ b)) (holds-or-fails (ltb f typeBase)))
+      (holds-or-fails (ltb e typeBase))
 
 -- where the lowest of two answers is no fault, none is
-pub both-types : (e f : ℕ) → 1048576 ≤ lowest e f → (1048576 ≤ e) × (1048576 ≤ f)
+pub both-types : (e f : ℕ) → typeBase ≤ lowest e f → (typeBase ≤ e) × (typeBase ≤ f)
 unfolding lowest
 both-types e f h =
-    ⊎-elim (λ b. let w : 1048576 ≤ e = rw b at h in let v = leb-true (e / 16) (f / 16) b in (w, omega arith))
-    (λ b. let w : 1048576 ≤ f = rw b at h in let v = leb-false (e / 16) (f / 16) b in (omega arith, w)) (holds-or-fails (leb (e / 16) (f / 16)))
+    ⊎-elim (λ b. let w : typeBase ≤ e = rw b at h in let v = leb-true (e / faultLimit) (f / faultLimit) b in (w, omega arith))
+    (λ b. let w : typeBase ≤ f = rw b at h in let v = leb-false (e / faultLimit) (f / faultLimit) b in (omega arith, w)) (holds-or-fails (leb (e / faultLimit) (f / faultLimit)))
 
 -- a fault goes before the node's own rule
 pub told-rule :
-    (s : Script) (i : ℕ) {A : Type 0} (R : A → Verdict) {m : ℕ} {x : Checked A} → Told m x → m < 1048576 → Stands s m (rule i R x)
+    (s : Script) (i : ℕ) {A : Type 0} (R : A → Verdict) {m : ℕ} {x : Checked A} → Told m x → m < typeBase → Stands s m (rule i R x)
 unfolding meaning rule
 told-rule s i R {m} p h =
-    rw (p .fault h) (record { said = rw (lt-ltb m 1048576 h); known = λ l. let z : ⊥ = omega arith in absurd z })
+    rw (p .fault h) (record { said = rw (lt-ltb m typeBase h); known = λ l. let z : ⊥ = omega arith in absurd z })

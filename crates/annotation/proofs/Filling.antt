@@ -7,7 +7,8 @@ use native.Mathlib.Omega.{arith}
 use native.Mathlib.Nat.{eq-or-lt-of-le}
 use lib.ListN.{length, getD, set, replicate, length-set, length-replicate, getD-replicate}
 use lib.Seq.{getD-set-same, getD-set-other}
-use Rattle.annotation.specs.Walks.{Pair, Lists, Bottom}
+use Rattle.lambdamix.specs.Limits.{maxTypes}
+use Rattle.annotation.specs.Walks.{Pair, Lists, Bottom, unlisted}
 
 -- the first j places hold their types' words, and the others are as before
 pub record Packing (ps rs before types : List ℕ) (j : ℕ) : Type 0 where
@@ -32,13 +33,13 @@ module _ {ps rs before : List ℕ} where
       }
 
   pub all-packed :
-      {types : List ℕ} {n : ℕ} → Packing ps rs before types n → before ≡ replicate 64 4294967295 → n ≤ 64 →
+      {types : List ℕ} {n : ℕ} → Packing ps rs before types n → before ≡ replicate maxTypes unlisted → n ≤ maxTypes →
       Lists n (λ j. getD ps j 0) (λ j. getD rs j 0) types
   all-packed {types} p e l =
-      let c : length before ≡ 64 = ap length e ∙ length-replicate {A = ℕ} 64 4294967295 in
+      let c : length before ≡ maxTypes = ap length e ∙ length-replicate {A = ℕ} maxTypes unlisted in
       record {
         each = λ j h. p .done j h (omega arith);
-        past = λ j h m. p .rest j h ∙ rw (e, getD-replicate {A = ℕ} 64 j 4294967295 0 m);
+        past = λ j h m. p .rest j h ∙ rw (e, getD-replicate {A = ℕ} maxTypes j unlisted 0 m);
         room = omega (arith, p .same);
       }
 

@@ -28,25 +28,25 @@ no-node k (some i) e = let z : _≡_ {A = ℕ} 0 1 = cc in let n : ⊥ = omega a
 
 -- a script of which none of refusals 3 to 5 and 7 holds
 pub record Sound (s : Script) : Type 0 where
-  pub few-types : length (s .types) ≤ 64
-  pub few-inputs : length (s .inputs) ≤ 16
+  pub few-types : length (s .types) ≤ maxTypes
+  pub few-inputs : length (s .inputs) ≤ maxInputs
   pub some-node : 1 ≤ nodeCount s
-  pub few-nodes : nodeCount s ≤ 4096
+  pub few-nodes : nodeCount s ≤ maxNodes
   pub types-fit : (j : ℕ) → j < length (s .types) → typeFits (λ k. getD (s .types) k blankType) j ≡ true
   pub inputs-fit : (j : ℕ) → j < length (s .inputs) → inputFits (λ k. getD (s .inputs) k 0) j ≡ true
   pub nodes-fit : (j : ℕ) → j < nodeCount s → nodeFits (length (s .types)) (length (s .inputs)) (nodeAt s) j ≡ true
-  pub low : (j : ℕ) → j < nodeCount s → height (tree s j) ≤ 256
+  pub low : (j : ℕ) → j < nodeCount s → height (tree s j) ≤ maxHeight
 
-counts-right : (t i n : ℕ) → countsRight t i n ≡ true → (t ≤ 64) × (i ≤ 16) × (1 ≤ n) × (n ≤ 4096)
-unfolding countsRight maxTypes maxInputs maxNodes
+counts-right : (t i n : ℕ) → countsRight t i n ≡ true → (t ≤ maxTypes) × (i ≤ maxInputs) × (1 ≤ n) × (n ≤ maxNodes)
+unfolding countsRight
 counts-right t i n e =
-    let (a, b) = and-both (leb t 64) _ e in
-    let (c, d) = and-both (leb i 16) _ b in
+    let (a, b) = and-both (leb t maxTypes) _ e in
+    let (c, d) = and-both (leb i maxInputs) _ b in
     let (p, q) = and-both (leb 1 n) _ d in
     (leb-true _ _ a, leb-true _ _ c, leb-true _ _ p, leb-true _ _ q)
 
 pub sound : (s : Script) → scriptRefusal s ≡ none → Sound s
-unfolding scriptRefusal contentRefusal contentOf nodeCount structureRefusal heightRefusal lowEnough maxHeight
+unfolding scriptRefusal contentRefusal contentOf nodeCount structureRefusal heightRefusal lowEnough
 sound s e =
     let (f, g) = neither _ _ e in
     let (h, t) = neither _ _ g in

@@ -6,6 +6,7 @@ use mathlib.Core.Logic.{_⊎_, inl, inr}
 use native.Mathlib.Omega.{arith}
 use lib.Dec.{eqb}
 use lib.ListN.{length, getD}
+use Rattle.lambdamix.specs.Limits.{maxNodes}
 use Rattle.lambdamix.specs.Script.{Script, rows, rowOf, blankRow, nodeAt, nodeCount, fields, ifChild, childFields, children}
 use Rattle.lambdamix.specs.Term.{lam, dlam, childAt, build, terms, tree, height, heights}
 use Rattle.lambdamix.specs.Types.{typeOf, typeCount}
@@ -234,7 +235,7 @@ last-kind (suc (suc (suc (suc (suc (suc (suc (suc (suc (suc (suc (suc (suc k))))
 module _ {words ts stack : List ℕ} {d i w : ℕ} (o : w ≡ getD words i 0) where
   pub at-variable :
       {x r : ℕ} → wordKind w ≡ 1 → x ≡ wordA w → (d ≤ length stack → r ≡ bound stack x i d) → Answers words ts stack stack d i r
-  unfolding rowOf rows build nodeAt check
+  unfolding rowOf rows build nodeAt check maxNodes
   at-variable q f g = record {
     kept = agree-refl d stack;
     reply = λ s Γ l b h room.

@@ -1,5 +1,5 @@
 -- From the root on: the walk's answer, under the inputs alone, gives refusals 9, 10 and 11 of the tables. Assumes nothing.
-use Prim.Native.Nat.{ℕ, _-_, _%_, _≤_, _<_}
+use Prim.Native.Nat.{ℕ, _-_, _≤_, _<_}
 use mathlib.Core.Path.{_≡_, _∙_}
 use mathlib.Core.Option.{none, some}
 use mathlib.Core.List.{List}
@@ -8,6 +8,7 @@ use native.Mathlib.Omega.{arith}
 use lib.ListN.{length, getD}
 use lib.Dec.{eqb, ltb}
 use borrow.Author.Tests.{ltb-false, ne-eqb}
+use Rattle.lambdamix.specs.Limits.{maxTypes}
 use Rattle.lambdamix.specs.Script.{Script, nodeCount, root}
 use Rattle.lambdamix.specs.Types.{Ty}
 use Rattle.lambdamix.specs.Typing.{inputContext}
@@ -20,8 +21,8 @@ use Rattle.script.specs.Tables.{Tables, rowType, rowInput, rowNode, tablesRefus
 use Rattle.script.specs.Columns.{tablesOf}
 use Rattle.script.specs.Words.{Packed}
 use Rattle.script.proofs.RefusalLaws.{neither}
-use Rattle.annotation.specs.Answers.{scriptOf, Passes, pick, meaning, Stands, rootAnswer}
-use Rattle.annotation.specs.Walks.{Lists, Lent, Bottom, Binds, Answers, Annotated}
+use Rattle.annotation.specs.Answers.{scriptOf, Passes, pick, typeBase, typeIn, meaning, Stands, rootAnswer}
+use Rattle.annotation.specs.Walks.{Lists, Lent, Binds, stackPlaces, Bottom, Answers, Annotated}
 use Rattle.annotation.proofs.Passing.{Sound, passes-sound, type-count, input-count, node-count, type-row, input-row, node-row}
 use Rattle.annotation.proofs.TypeNumbers.{View, static, dynamic, arrow, view}
 use Rattle.annotation.proofs.Contexts.{inputs-bound}
@@ -31,15 +32,15 @@ root-stands : (s : Script) → Sound s → (i r : ℕ) {x : Checked Ty} → Stan
 unfolding rootAnswer rootRule meaning
 root-stands s ok i r p =
     rw (← p .said)
-    (⊎-elim (λ e. rw e) (λ e. let h = ltb-false _ _ e in rw e (by-view (view s ok (r % 65536) (p .known h))))
-    (holds-or-fails (ltb r 1048576)))
+    (⊎-elim (λ e. rw e) (λ e. let h = ltb-false _ _ e in rw e (by-view (view s ok (typeIn r) (p .known h))))
+    (holds-or-fails (ltb r typeBase)))
   where
     by-view :
-        {u : Ty} → View s (r % 65536) u →
-        pick (eqb (r % 65536) 1) none (some (record { number = 11; place = i })) ≡ rootRule i (typed u)
+        {u : Ty} → View s (typeIn r) u →
+        pick (eqb (typeIn r) 1) none (some (record { number = 11; place = i })) ≡ rootRule i (typed u)
     by-view (static e) = rw e
     by-view (dynamic e) = rw e
-    by-view (arrow j e l) = rw (ne-eqb (r % 65536) 1 (λ w. omega arith))
+    by-view (arrow j e l) = rw (ne-eqb (typeIn r) 1 (λ w. omega arith))
 
 module _ (n : Counts) (x : Tables) (ok : Passes n x) where
   tables-lent :
@@ -68,8 +69,8 @@ module _ (n : Counts) (x : Tables) (ok : Passes n x) where
 -- Theorem: the root's answer gives refusals 9, 10 and 11.
 pub at-root :
     {n : Counts} {ps rs is words ts before after : List ℕ} {i r : ℕ} {v : Verdict} →
-    (n .types ≤ 64 → Lists (n .types) (λ j. getD ps j 0) (λ j. getD rs j 0) ts) → (n .inputs ≤ 272 → Bottom (n .inputs) is before) →
-    length before ≡ 272 → i ≡ n .nodes - 1 → Answers words ts before after (n .inputs) i r → refusalOf v ≡ rootAnswer i r →
+    (n .types ≤ maxTypes → Lists (n .types) (λ j. getD ps j 0) (λ j. getD rs j 0) ts) → (n .inputs ≤ stackPlaces → Bottom (n .inputs) is before) →
+    length before ≡ stackPlaces → i ≡ n .nodes - 1 → Answers words ts before after (n .inputs) i r → refusalOf v ≡ rootAnswer i r →
     Annotated n ps rs is words v
 unfolding annotationRefusal checkedRoot root
 at-root {n} {ps} {rs} {is} {words} {before} {i} {r} t b c e a q = record {

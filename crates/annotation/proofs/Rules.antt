@@ -1,6 +1,6 @@
 -- The rules on numbers of types stand for the rules on types, for each kind with children: a node's answer from the answers at its
 -- children. Assumes nothing.
-use Prim.Native.Nat.{ℕ, _+_, _-_, _*_, _/_, _%_, _≤_, _<_}
+use Prim.Native.Nat.{ℕ, _+_, _-_, _≤_, _<_}
 use mathlib.Core.Path.{_≡_, refl}
 use mathlib.Core.Logic.{⊎-elim}
 use mathlib.Core.Bool.{Bool, true, false, _&&_}
@@ -9,13 +9,14 @@ use native.Mathlib.Omega.{arith}
 use lib.ListN.{length, getD}
 use lib.Dec.{leb, ltb, eqb}
 use borrow.Author.Tests.{leb-true, ltb-true, ltb-false}
+use Rattle.lambdamix.specs.Limits.{maxTypes, maxNodes}
 use Rattle.lambdamix.specs.Script.{Script, Node, rows, blankRow, nodeCount}
 use Rattle.lambdamix.specs.Term.{Terms, arity, childAt, build}
 use Rattle.lambdamix.specs.Types.{Ty, typeOf, typeCount}
 use Rattle.lambdamix.specs.Typing.{Context}
 use Rattle.lambdamix.specs.Checker.{Checked, both, gather, rule, own, provided, applyRule, fixRule, abstrBy, abstrRule, dynRule, check, checkAll}
 use Rattle.lambdamix.proofs.Tests.{holds-or-fails}
-use Rattle.annotation.specs.Answers.{Stands, givenBy, lowest}
+use Rattle.annotation.specs.Answers.{limit16, pairWord, typeBase, typeIn, Stands, givenBy, parameterOf, resultOf, applyAnswer, fixAnswer, lowest}
 use Rattle.annotation.specs.Walks.{Lent, Listing, listed-at, not-listed, OneChild, lifts, fixes, fixes-dynamic, TwoChildren, applies, operates, applies-dynamic, operates-dynamic, ThreeChildren, chooses, chooses-dynamic, Stand, none-left, and-then, BinderRuled}
 use Rattle.annotation.proofs.Passing.{Sound, sound}
 use Rattle.annotation.proofs.TypeNumbers.{pair, parts, type-one, function-type, listed-pair, unlisted-pair, apply-numbers, fix-numbers, lift-numbers, if-numbers, op-numbers, dynamic-one, dynamic-two, dynamic-three, dynamic-function}
@@ -28,7 +29,8 @@ module _ {s : Script} {words ts : List ℕ} (lent : Lent s words ts) (i : ℕ) (
   ok : Sound s
   ok = sound s (lent .passes)
 
-  small : i < 65536
+  small : i < limit16
+  unfolding maxNodes
   small = omega (arith, ok .few-nodes)
 
   -- a test on a function type's two numbers, and one of them, read from its word
@@ -36,8 +38,8 @@ module _ {s : Script} {words ts : List ℕ} (lent : Lent s words ts) (i : ℕ) (
       (test : ℕ → ℕ → Bool) (out : ℕ → ℕ → ℕ) →
       ((j : ℕ) → j < length (s .types) → out (pair s j .parameter) (pair s j .result) < 2 + j) → (f : ℕ) → f < typeCount s →
       Stands s
-      (givenBy (leb 2 f && test (getD ts (f - 2) 0 / 65536) (getD ts (f - 2) 0 % 65536))
-      (out (getD ts (f - 2) 0 / 65536) (getD ts (f - 2) 0 % 65536)) i)
+      (givenBy (leb 2 f && test (parameterOf ts f) (resultOf ts f))
+      (out (parameterOf ts f) (resultOf ts f)) i)
       (own i
       (provided (leb 2 f && test (pair s (f - 2) .parameter) (pair s (f - 2) .result))
       (typeOf s (out (pair s (f - 2) .parameter) (pair s (f - 2) .result)))))
@@ -47,8 +49,8 @@ module _ {s : Script} {words ts : List ℕ} (lent : Lent s words ts) (i : ℕ) (
       by-test :
           (b : Bool) → leb 2 f ≡ b →
           Stands s
-          (givenBy (b && test (getD ts (f - 2) 0 / 65536) (getD ts (f - 2) 0 % 65536))
-          (out (getD ts (f - 2) 0 / 65536) (getD ts (f - 2) 0 % 65536)) i)
+          (givenBy (b && test (parameterOf ts f) (resultOf ts f))
+          (out (parameterOf ts f) (resultOf ts f)) i)
           (own i
           (provided (b && test (pair s (f - 2) .parameter) (pair s (f - 2) .result))
           (typeOf s (out (pair s (f - 2) .parameter) (pair s (f - 2) .result)))))
@@ -62,26 +64,20 @@ module _ {s : Script} {words ts : List ℕ} (lent : Lent s words ts) (i : ℕ) (
 
   apply-stands :
       (f t : ℕ) → f < typeCount s → t < typeCount s →
-      Stands s
-      (givenBy (leb 2 f && eqb (getD ts (f - 2) 0 / 65536) t) (getD ts (f - 2) 0 % 65536) i)
-      (own i (applyRule (typeOf s f) (typeOf s t)))
+      Stands s (applyAnswer ts i f t) (own i (applyRule (typeOf s f) (typeOf s t)))
   apply-stands f t m l =
       rw (apply-numbers s ok f t m l) (word-stands (λ p r. eqb p t) (λ p r. r) (λ j k. parts s ok j k .1) f m)
 
   fix-stands :
       (f : ℕ) → f < typeCount s →
-      Stands s
-      (givenBy
-      (leb 2 f && (leb 2 (getD ts (f - 2) 0 / 65536) && eqb (getD ts (f - 2) 0 / 65536) (getD ts (f - 2) 0 % 65536)))
-      (getD ts (f - 2) 0 / 65536) i)
-      (own i (fixRule (typeOf s f)))
+      Stands s (fixAnswer ts i f) (own i (fixRule (typeOf s f)))
   fix-stands f m =
       rw (fix-numbers s ok f m) (word-stands (λ p r. leb 2 p && eqb p r) (λ p r. p) (λ j k. parts s ok j k .0) f m)
 
   function-stands :
-      {r t u : ℕ} → Listing ts (65536 * t + u) i r → t < typeCount s → u < typeCount s →
+      {r t u : ℕ} → Listing ts (pairWord t u) i r → t < typeCount s → u < typeCount s →
       Stands s r (own i (abstrRule s (typeOf s t) (typeOf s u)))
-  unfolding abstrRule abstrBy own typeCount
+  unfolding abstrRule abstrBy own typeCount maxTypes
   function-stands {t} {u} (listed-at j l e) m k =
       let few = ok .few-types in
       ⊎-elim
@@ -108,21 +104,21 @@ module _ {s : Script} {words ls : List ℕ} (lent : Lent s words ls) (Γ : Conte
 
   -- a fault goes first
 
-  pub one-fault : {k e : ℕ} {ts : Terms} → OneChild k → e < 1048576 → Stand s Γ (e ∷ []) ts → Stands s e (over k ts)
+  pub one-fault : {k e : ℕ} {ts : Terms} → OneChild k → e < typeBase → Stand s Γ (e ∷ []) ts → Stands s e (over k ts)
   unfolding rows build childAt check checkAll
   one-fault lifts l (and-then p none-left) = told-rule s i _ (told p) l
   one-fault fixes l (and-then p none-left) = told-rule s i _ (told p) l
   one-fault fixes-dynamic l (and-then p none-left) = told-rule s i _ (told-gather (told-alone (told p) _)) l
 
   dynamic-two-fault :
-      {e f : ℕ} {ts : Terms} → lowest e f < 1048576 → Stand s Γ (e ∷ f ∷ []) ts →
+      {e f : ℕ} {ts : Terms} → lowest e f < typeBase → Stand s Γ (e ∷ f ∷ []) ts →
       Stands s (lowest e f) (rule i (dynRule 2) (checkAll s Γ ts))
   unfolding checkAll
   dynamic-two-fault l (and-then p (and-then q none-left)) =
       told-rule s i _ (told-gather (told-both (told p) (told-gather (told-alone (told q) _)))) l
 
   pub two-fault :
-      {k e f : ℕ} {ts : Terms} → TwoChildren k → lowest e f < 1048576 → Stand s Γ (e ∷ f ∷ []) ts → Stands s (lowest e f) (over k ts)
+      {k e f : ℕ} {ts : Terms} → TwoChildren k → lowest e f < typeBase → Stand s Γ (e ∷ f ∷ []) ts → Stands s (lowest e f) (over k ts)
   unfolding rows build childAt check arity
   two-fault applies l (and-then p (and-then q none-left)) = told-rule s i _ (told-both (told p) (told q)) l
   two-fault operates l (and-then p (and-then q none-left)) = told-rule s i _ (told-both (told p) (told q)) l
@@ -130,7 +126,7 @@ module _ {s : Script} {words ls : List ℕ} (lent : Lent s words ls) (Γ : Conte
   two-fault operates-dynamic l st = dynamic-two-fault l st
 
   pub three-fault :
-      {k e f g : ℕ} {ts : Terms} → ThreeChildren k → lowest e (lowest f g) < 1048576 → Stand s Γ (e ∷ f ∷ g ∷ []) ts →
+      {k e f g : ℕ} {ts : Terms} → ThreeChildren k → lowest e (lowest f g) < typeBase → Stand s Γ (e ∷ f ∷ g ∷ []) ts →
       Stands s (lowest e (lowest f g)) (over k ts)
   unfolding rows build childAt check checkAll
   three-fault chooses l (and-then p (and-then q (and-then r none-left))) =
@@ -141,62 +137,54 @@ module _ {s : Script} {words ls : List ℕ} (lent : Lent s words ls) (Γ : Conte
   -- else the rule on the types
 
   pub lift-type :
-      {e : ℕ} {ts : Terms} → 1048576 ≤ e → Stand s Γ (e ∷ []) ts → Stands s (givenBy (eqb (e % 65536) 0) 1 i) (over 2 ts)
+      {e : ℕ} {ts : Terms} → typeBase ≤ e → Stand s Γ (e ∷ []) ts → Stands s (givenBy (eqb (typeIn e) 0) 1 i) (over 2 ts)
   unfolding rows build childAt check rule typeCount
   lift-type {e} l (and-then p none-left) =
-      rw (typed-answer p l, lift-numbers s (ok lent i h) (e % 65536) (p .known l))
+      rw (typed-answer p l, lift-numbers s (ok lent i h) (typeIn e) (p .known l))
       (given-stands s (ok lent i h) _ 1 i (small lent i h) (λ _. omega arith))
 
   pub fix-type :
-      {e : ℕ} {ts : Terms} → 1048576 ≤ e → Stand s Γ (e ∷ []) ts →
-      Stands s
-      (givenBy
-      (leb 2 (e % 65536)
-      && (leb 2 (getD ls (e % 65536 - 2) 0 / 65536)
-      && eqb (getD ls (e % 65536 - 2) 0 / 65536) (getD ls (e % 65536 - 2) 0 % 65536)))
-      (getD ls (e % 65536 - 2) 0 / 65536) i)
-      (over 5 ts)
+      {e : ℕ} {ts : Terms} → typeBase ≤ e → Stand s Γ (e ∷ []) ts →
+      Stands s (fixAnswer ls i (typeIn e)) (over 5 ts)
   unfolding rows build childAt check rule
-  fix-type {e} l (and-then p none-left) = rw (typed-answer p l) (fix-stands lent i h (e % 65536) (p .known l))
+  fix-type {e} l (and-then p none-left) = rw (typed-answer p l) (fix-stands lent i h (typeIn e) (p .known l))
 
   pub dynamic-one-type :
-      {k e : ℕ} {ts : Terms} → OneChild k → (k ≡ 2 → ⊥) → (k ≡ 5 → ⊥) → 1048576 ≤ e → Stand s Γ (e ∷ []) ts →
-      Stands s (givenBy (eqb (e % 65536) 1) 1 i) (over k ts)
+      {k e : ℕ} {ts : Terms} → OneChild k → (k ≡ 2 → ⊥) → (k ≡ 5 → ⊥) → typeBase ≤ e → Stand s Γ (e ∷ []) ts →
+      Stands s (givenBy (eqb (typeIn e) 1) 1 i) (over k ts)
   unfolding rows build childAt check checkAll arity both gather rule typeCount
   dynamic-one-type lifts a b l st = absurd (a refl)
   dynamic-one-type fixes a b l st = absurd (b refl)
   dynamic-one-type {e} fixes-dynamic a b l (and-then p none-left) =
-      rw (typed-answer p l, dynamic-one s (ok lent i h) (e % 65536) (p .known l))
+      rw (typed-answer p l, dynamic-one s (ok lent i h) (typeIn e) (p .known l))
       (given-stands s (ok lent i h) _ 1 i (small lent i h) (λ _. omega arith))
 
   pub apply-type :
-      {e f : ℕ} {ts : Terms} → 1048576 ≤ e → 1048576 ≤ f → Stand s Γ (e ∷ f ∷ []) ts →
-      Stands s
-      (givenBy (leb 2 (e % 65536) && eqb (getD ls (e % 65536 - 2) 0 / 65536) (f % 65536)) (getD ls (e % 65536 - 2) 0 % 65536) i)
-      (over 4 ts)
+      {e f : ℕ} {ts : Terms} → typeBase ≤ e → typeBase ≤ f → Stand s Γ (e ∷ f ∷ []) ts →
+      Stands s (applyAnswer ls i (typeIn e) (typeIn f)) (over 4 ts)
   unfolding rows build childAt check both rule
   apply-type {e} {f} l m (and-then p (and-then q none-left)) =
-      rw (typed-answer p l, typed-answer q m) (apply-stands lent i h (e % 65536) (f % 65536) (p .known l) (q .known m))
+      rw (typed-answer p l, typed-answer q m) (apply-stands lent i h (typeIn e) (typeIn f) (p .known l) (q .known m))
 
   pub operation-type :
-      {e f : ℕ} {ts : Terms} → 1048576 ≤ e → 1048576 ≤ f → Stand s Γ (e ∷ f ∷ []) ts →
-      Stands s (givenBy (eqb (e % 65536) 0 && eqb (f % 65536) 0) 0 i) (over 7 ts)
+      {e f : ℕ} {ts : Terms} → typeBase ≤ e → typeBase ≤ f → Stand s Γ (e ∷ f ∷ []) ts →
+      Stands s (givenBy (eqb (typeIn e) 0 && eqb (typeIn f) 0) 0 i) (over 7 ts)
   unfolding rows build childAt check both rule typeCount
   operation-type {e} {f} l m (and-then p (and-then q none-left)) =
-      rw (typed-answer p l, typed-answer q m, op-numbers s (ok lent i h) (e % 65536) (f % 65536) (p .known l) (q .known m))
+      rw (typed-answer p l, typed-answer q m, op-numbers s (ok lent i h) (typeIn e) (typeIn f) (p .known l) (q .known m))
       (given-stands s (ok lent i h) _ 0 i (small lent i h) (λ _. omega arith))
 
   dynamic-two-rule :
-      {e f : ℕ} {ts : Terms} → 1048576 ≤ e → 1048576 ≤ f → Stand s Γ (e ∷ f ∷ []) ts →
-      Stands s (givenBy (eqb (e % 65536) 1 && eqb (f % 65536) 1) 1 i) (rule i (dynRule 2) (checkAll s Γ ts))
+      {e f : ℕ} {ts : Terms} → typeBase ≤ e → typeBase ≤ f → Stand s Γ (e ∷ f ∷ []) ts →
+      Stands s (givenBy (eqb (typeIn e) 1 && eqb (typeIn f) 1) 1 i) (rule i (dynRule 2) (checkAll s Γ ts))
   unfolding checkAll both gather rule typeCount
   dynamic-two-rule {e} {f} l m (and-then p (and-then q none-left)) =
-      rw (typed-answer p l, typed-answer q m, dynamic-two s (ok lent i h) (e % 65536) (f % 65536) (p .known l) (q .known m))
+      rw (typed-answer p l, typed-answer q m, dynamic-two s (ok lent i h) (typeIn e) (typeIn f) (p .known l) (q .known m))
       (given-stands s (ok lent i h) _ 1 i (small lent i h) (λ _. omega arith))
 
   pub dynamic-two-type :
-      {k e f : ℕ} {ts : Terms} → TwoChildren k → (k ≡ 4 → ⊥) → (k ≡ 7 → ⊥) → 1048576 ≤ e → 1048576 ≤ f →
-      Stand s Γ (e ∷ f ∷ []) ts → Stands s (givenBy (eqb (e % 65536) 1 && eqb (f % 65536) 1) 1 i) (over k ts)
+      {k e f : ℕ} {ts : Terms} → TwoChildren k → (k ≡ 4 → ⊥) → (k ≡ 7 → ⊥) → typeBase ≤ e → typeBase ≤ f →
+      Stand s Γ (e ∷ f ∷ []) ts → Stands s (givenBy (eqb (typeIn e) 1 && eqb (typeIn f) 1) 1 i) (over k ts)
   unfolding rows build check arity
   dynamic-two-type applies a b l m st = absurd (a refl)
   dynamic-two-type operates a b l m st = absurd (b refl)
@@ -204,26 +192,26 @@ module _ {s : Script} {words ls : List ℕ} (lent : Lent s words ls) (Γ : Conte
   dynamic-two-type operates-dynamic a b l m st = dynamic-two-rule l m st
 
   pub if-type :
-      {e f g : ℕ} {ts : Terms} → 1048576 ≤ e → 1048576 ≤ f → 1048576 ≤ g → Stand s Γ (e ∷ f ∷ g ∷ []) ts →
-      Stands s (givenBy (eqb (e % 65536) 0 && eqb (f % 65536) (g % 65536)) (f % 65536) i) (over 6 ts)
+      {e f g : ℕ} {ts : Terms} → typeBase ≤ e → typeBase ≤ f → typeBase ≤ g → Stand s Γ (e ∷ f ∷ g ∷ []) ts →
+      Stands s (givenBy (eqb (typeIn e) 0 && eqb (typeIn f) (typeIn g)) (typeIn f) i) (over 6 ts)
   unfolding rows build childAt check both rule
   if-type {e} {f} {g} l m n (and-then p (and-then q (and-then r none-left))) =
-      rw (typed-answer p l, typed-answer q m, typed-answer r n, if-numbers s (ok lent i h) (e % 65536) (f % 65536) (g % 65536) (p .known l) (q .known m) (r .known n))
-      (given-stands s (ok lent i h) _ (f % 65536) i (small lent i h) (λ _. q .known m))
+      rw (typed-answer p l, typed-answer q m, typed-answer r n, if-numbers s (ok lent i h) (typeIn e) (typeIn f) (typeIn g) (p .known l) (q .known m) (r .known n))
+      (given-stands s (ok lent i h) _ (typeIn f) i (small lent i h) (λ _. q .known m))
 
   pub dynamic-three-type :
-      {k e f g : ℕ} {ts : Terms} → ThreeChildren k → (k ≡ 6 → ⊥) → 1048576 ≤ e → 1048576 ≤ f → 1048576 ≤ g →
+      {k e f g : ℕ} {ts : Terms} → ThreeChildren k → (k ≡ 6 → ⊥) → typeBase ≤ e → typeBase ≤ f → typeBase ≤ g →
       Stand s Γ (e ∷ f ∷ g ∷ []) ts →
-      Stands s (givenBy (eqb (e % 65536) 1 && (eqb (f % 65536) 1 && eqb (g % 65536) 1)) 1 i) (over k ts)
+      Stands s (givenBy (eqb (typeIn e) 1 && (eqb (typeIn f) 1 && eqb (typeIn g) 1)) 1 i) (over k ts)
   unfolding rows build childAt check checkAll arity both gather rule typeCount
   dynamic-three-type chooses a l m n st = absurd (a refl)
   dynamic-three-type {e} {f} {g} chooses-dynamic a l m n (and-then p (and-then q (and-then r none-left))) =
-      rw (typed-answer p l, typed-answer q m, typed-answer r n, dynamic-three s (ok lent i h) (e % 65536) (f % 65536) (g % 65536) (p .known l) (q .known m) (r .known n))
+      rw (typed-answer p l, typed-answer q m, typed-answer r n, dynamic-three s (ok lent i h) (typeIn e) (typeIn f) (typeIn g) (p .known l) (q .known m) (r .known n))
       (given-stands s (ok lent i h) _ 1 i (small lent i h) (λ _. omega arith))
 
 -- ---- a binder over its body
 
-pub body-fault : {ls : List ℕ} {k p i e : ℕ} → e < 1048576 → BinderRuled ls k p i e e
+pub body-fault : {ls : List ℕ} {k p i e : ℕ} → e < typeBase → BinderRuled ls k p i e e
 unfolding check
 body-fault {i} l =
     record {
@@ -232,23 +220,23 @@ body-fault {i} l =
     }
 
 pub function-type-ruled :
-    {ls : List ℕ} {k p i e r : ℕ} → k ≡ 3 → 1048576 ≤ e → (64 ≤ length ls → Listing ls (65536 * p + e % 65536) i r) →
+    {ls : List ℕ} {k p i e r : ℕ} → k ≡ 3 → typeBase ≤ e → (maxTypes ≤ length ls → Listing ls (pairWord p (typeIn e)) i r) →
     BinderRuled ls k p i e r
 unfolding check rule
 function-type-ruled {p} {i} {e} a l g =
     record {
       of-static = λ words s Γ y t _ lent h b st.
-          rw (typed-answer st l) (function-stands lent i h {t = p} {u = e % 65536} (g (lent .types .room)) b (st .known l));
+          rw (typed-answer st l) (function-stands lent i h {t = p} {u = typeIn e} (g (lent .types .room)) b (st .known l));
       of-dynamic = λ words s Γ y t c lent h b st. let z : ⊥ = omega arith in absurd z;
     }
 
 pub dynamic-function-ruled :
-    {ls : List ℕ} {k p i e r : ℕ} → (k ≡ 3 → ⊥) → 1048576 ≤ e → r ≡ givenBy (eqb (e % 65536) 1) 1 i → BinderRuled ls k p i e r
+    {ls : List ℕ} {k p i e r : ℕ} → (k ≡ 3 → ⊥) → typeBase ≤ e → r ≡ givenBy (eqb (typeIn e) 1) 1 i → BinderRuled ls k p i e r
 unfolding check rule typeCount
 dynamic-function-ruled {i} {e} a l g =
     record {
       of-static = λ words s Γ y t c lent h b st. absurd (a c);
       of-dynamic = λ words s Γ y t c lent h b st.
-          rw (← type-one s, ← b, typed-answer st l, dynamic-function s (ok lent i h) (e % 65536) (st .known l), g)
+          rw (← type-one s, ← b, typed-answer st l, dynamic-function s (ok lent i h) (typeIn e) (st .known l), g)
           (given-stands s (ok lent i h) _ 1 i (small lent i h) (λ _. omega arith));
     }

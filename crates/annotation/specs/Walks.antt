@@ -1,12 +1,13 @@
 -- What the walk of the tree promises: with the nodes and the listed types in words, and the binders around a node on a stack, the
 -- inputs below them, a node's answer stands for what `check` gives. Assumes nothing.
-use Prim.Native.Nat.{ℕ, zero, suc, _+_, _-_, _/_, _%_, _≤_, _<_}
+use Prim.Native.Nat.{ℕ, zero, suc, _+_, _-_, _≤_, _<_}
 use mathlib.Core.List.{List, [], _∷_}
 use mathlib.Core.Option.{none}
 use mathlib.Core.Path.{_≡_}
 use lib.IntN.{ℤ}
 use lib.ListN.{length, getD}
 use lib.Dec.{eqb}
+use Rattle.lambdamix.specs.Limits.{maxTypes, maxInputs, maxHeight}
 use Rattle.lambdamix.specs.Script.{Script, Node, rows, blankRow, nodeAt, nodeCount}
 use Rattle.lambdamix.specs.Term.{Term, Terms, nilT, consT, lam, dlam, build, tree, height}
 use Rattle.lambdamix.specs.Types.{blankType, typeOf, typeCount}
@@ -19,18 +20,22 @@ use Rattle.script.specs.Tables.{rowNode}
 use Rattle.script.specs.Columns.{tablesOf}
 use Rattle.script.specs.Replies.{refusalOf}
 use Rattle.script.specs.Words.{wordKind, Packed}
-use Rattle.annotation.specs.Answers.{scriptOf, Passes, pick, typeAnswer, faultAnswer, Stands}
+use Rattle.annotation.specs.Answers.{scriptOf, Passes, pick, highHalf, lowHalf, typeAnswer, faultAnswer, Stands}
 
 -- two numbers of 16 bits in a word of 32
 pub record Pair (w a b : ℕ) : Type 0 where
-  pub high : w / 65536 ≡ a
-  pub low : w % 65536 ≡ b
+  pub high : highHalf w ≡ a
+  pub low : lowHalf w ≡ b
 
--- the words of t listed types, each its parameter over its result; the places past them hold no pair of types
+-- what a place past the listed types holds: no pair of types
+abbrev pub unlisted : ℕ
+unlisted = 4294967295
+
+-- the words of t listed types, each its parameter over its result
 pub record Lists (t : ℕ) (parameter result : ℕ → ℕ) (ts : List ℕ) : Type 0 where
   pub each : (j : ℕ) → j < t → Pair (getD ts j 0) (parameter j) (result j)
-  pub past : (j : ℕ) → t ≤ j → j < 64 → getD ts j 0 ≡ 4294967295
-  pub room : 64 ≤ length ts
+  pub past : (j : ℕ) → t ≤ j → j < maxTypes → getD ts j 0 ≡ unlisted
+  pub room : maxTypes ≤ length ts
 
 -- what the words lent to the walk hold of a script, of which none of refusals 3 to 8 holds
 pub record Lent (s : Script) (words ts : List ℕ) : Type 0 where
@@ -41,8 +46,8 @@ pub record Lent (s : Script) (words ts : List ℕ) : Type 0 where
 
 -- a place of the type list has the word, or none has
 pub data Listing (ts : List ℕ) (w i : ℕ) : ℕ → Type 0 where
-  listed-at : (j : ℕ) → j < 64 → getD ts j 0 ≡ w → Listing ts w i (typeAnswer (2 + j))
-  not-listed : ((j : ℕ) → j < 64 → getD ts j 0 ≡ w → ⊥) → Listing ts w i (faultAnswer 10 i)
+  listed-at : (j : ℕ) → j < maxTypes → getD ts j 0 ≡ w → Listing ts w i (typeAnswer (2 + j))
+  not-listed : ((j : ℕ) → j < maxTypes → getD ts j 0 ≡ w → ⊥) → Listing ts w i (faultAnswer 10 i)
 
 -- the first d binders make up a context, the last innermost; a binder is its name over its type's number
 pub data Binds (s : Script) (binders : List ℕ) : ℕ → Context → Type 0 where
@@ -55,7 +60,11 @@ pub data Binds (s : Script) (binders : List ℕ) : ℕ → Context → Type 0 wh
 unfoldable pub bound : List ℕ → ℕ → ℕ → ℕ → ℕ
 bound binders x i zero = faultAnswer 9 i
 bound binders x i (suc d) =
-    pick (eqb (getD binders d 0 / 65536) x) (typeAnswer (getD binders d 0 % 65536)) (bound binders x i d)
+    pick (eqb (highHalf (getD binders d 0)) x) (typeAnswer (lowHalf (getD binders d 0))) (bound binders x i d)
+
+-- places of the stack: the inputs, and as many binders as a tree is high
+abbrev pub stackPlaces : ℕ
+stackPlaces = maxInputs + maxHeight
 
 -- n inputs as binders, the first innermost
 pub record Bottom (n : ℕ) (types binders : List ℕ) : Type 0 where

@@ -16,22 +16,36 @@ use script::word::field_b;
 use script::word::field_c;
 use script::word::kind;
 use script::word::word_at;
-ghost use Prim.Native.Nat.{_+_, _-_, _*_, _/_, _%_, _≤_, _<_};
+ghost use Prim.Native.Nat.{_-_, _≤_};
 ghost use mathlib.Core.Path.{_≡_};
 ghost use mathlib.Core.Bool.{_&&_};
 ghost use mathlib.Core.List.{[], _∷_};
 ghost use lib.ListN.{getD, length, replicate, set};
-ghost use lib.Dec.{eqb, leb};
+ghost use lib.Dec.{eqb};
+ghost use Rattle.lambdamix.specs.Limits.{maxTypes};
 ghost use Rattle.script.specs.Replies.{refusalOf};
 ghost use Rattle.script.specs.Words.{wordKind, wordB};
-ghost use Rattle.annotation.specs.Answers.{faultAnswer, givenBy, lowest, pick, rootAnswer, typeAnswer};
-ghost use Rattle.annotation.specs.Walks.{Annotated, Answers, BinderRuled, BindsName, Bottom, ChildAnswers, Lists, Listing, OneChild, Pair, Pushed, Ruled, ThreeChildren, TwoChildren, WordOf, bound};
+ghost use Rattle.annotation.specs.Answers.{applyAnswer, faultAnswer, fixAnswer, givenBy, highHalf, lowHalf, lowest, pairWord, pick, rootAnswer, typeAnswer, typeIn};
+ghost use Rattle.annotation.specs.Walks.{Annotated, Answers, BinderRuled, BindsName, Bottom, ChildAnswers, Lists, Listing, OneChild, Pair, Pushed, Ruled, ThreeChildren, TwoChildren, WordOf, bound, unlisted};
 
 // Places of the stack: the inputs, and as many binders as a tree is high.
-const PLACES: usize = MAX_INPUTS + MAX_HEIGHT;
+const STACK_PLACES: usize = MAX_INPUTS + MAX_HEIGHT;
 
-// An answer is a type's number above this one, or below it a fault: 16 times its node plus its number.
-const TYPE: u32 = 1048576;
+// Numbers of 16 bits are below this one.
+const LIMIT_16: u32 = 65536;
+
+// The numbers of refusals are below this one.
+const FAULT_LIMIT: u32 = 16;
+
+// An answer is a type's number above this one, or below it a fault: its node over its number.
+const TYPE_BASE: u32 = FAULT_LIMIT * LIMIT_16;
+
+// The numbers of the types S and D, and of the first listed one.
+const STATIC: u16 = 0;
+
+const DYNAMIC: u16 = 1;
+
+const FIRST_LISTED: u16 = 2;
 
 // What a place past the listed types holds: no pair of types.
 const UNLISTED: u32 = 4294967295;
@@ -39,38 +53,38 @@ const UNLISTED: u32 = 4294967295;
 // A listed type, its parameter over its result, or a binder, its name over its type.
 fn pair(a: u16, b: u16) -> u32
     ensures { λ r. ⌜ Pair r a b ⌝ }
-    ensures word { λ r. ⌜ r ≡ 65536 * a + b ⌝ }
+    ensures word { λ r. ⌜ r ≡ pairWord a b ⌝ }
 {
-    65536 * (a as u32) + (b as u32)
+    LIMIT_16 * (a as u32) + (b as u32)
 }
 
 fn high(w: u32) -> u16
-    ensures { λ r. ⌜ r ≡ w / 65536 ⌝ }
+    ensures { λ r. ⌜ r ≡ highHalf w ⌝ }
 {
-    (w / 65536) as u16
+    (w / LIMIT_16) as u16
 }
 
 fn low(w: u32) -> u16
-    ensures { λ r. ⌜ r ≡ w % 65536 ⌝ }
+    ensures { λ r. ⌜ r ≡ lowHalf w ⌝ }
 {
-    (w % 65536) as u16
+    (w % LIMIT_16) as u16
 }
 
 fn typed(t: TypeNumber) -> u32
     ensures { λ r. ⌜ r ≡ typeAnswer (t .0) ⌝ }
 {
-    TYPE + (t.0 as u32)
+    TYPE_BASE + (t.0 as u32)
 }
 
 fn fault(number: u8, i: NodeNumber) -> u32
     ensures { λ r. ⌜ r ≡ faultAnswer number (i .0) ⌝ }
 {
-    16 * (i.0 as u32) + (number as u32)
+    FAULT_LIMIT * (i.0 as u32) + (number as u32)
 }
 
 // The type of an answer that is no fault.
 fn type_in(e: u32) -> TypeNumber
-    ensures { λ r. ⌜ r .0 ≡ e % 65536 ⌝ }
+    ensures { λ r. ⌜ r .0 ≡ typeIn e ⌝ }
 {
     TypeNumber(low(e))
 }
@@ -79,7 +93,11 @@ fn type_in(e: u32) -> TypeNumber
 fn lower(e: u32, f: u32) -> u32
     ensures { λ r. ⌜ r ≡ lowest e f ⌝ }
 {
-    if e / 16 <= f / 16 { e } else { f }
+    if e / FAULT_LIMIT <= f / FAULT_LIMIT {
+        e
+    } else {
+        f
+    }
 }
 
 // A type where a test holds, else a fault 9 at node i.
@@ -95,12 +113,12 @@ fn both(p: bool, q: bool) -> bool
     if p { q } else { false }
 }
 
-// The word of a listed type, by its number, from 2 on.
+// The word of a listed type, by its number.
 fn listed(types: &[u32], f: TypeNumber) -> u32
     requires { ⌜ 2 ≤ f .0 ⌝ }
     ensures { λ r. ⌜ r ≡ getD (now (types .entry)) (f .0 - 2) 0 ⌝ }
 {
-    let at = (f.0 - 2) as usize;
+    let at = (f.0 - FIRST_LISTED) as usize;
     if at < types.len() {
         return types[at];
     }
@@ -109,10 +127,9 @@ fn listed(types: &[u32], f: TypeNumber) -> u32
 
 // Application: a function from t to u and an argument t give u.
 fn application(types: &[u32], i: NodeNumber, f: TypeNumber, t: TypeNumber) -> u32
-    ensures { λ r. ⌜ r ≡ givenBy (leb 2 (f .0) && eqb (getD (now (types .entry)) (f .0 - 2) 0 / 65536) (t .0))
-        (getD (now (types .entry)) (f .0 - 2) 0 % 65536) (i .0) ⌝ }
+    ensures { λ r. ⌜ r ≡ applyAnswer (now (types .entry)) (i .0) (f .0) (t .0) ⌝ }
 {
-    if f.0 < 2 {
+    if f.0 < FIRST_LISTED {
         return fault(9, i);
     }
     let w = listed(types, f);
@@ -121,21 +138,19 @@ fn application(types: &[u32], i: NodeNumber, f: TypeNumber, t: TypeNumber) -> u3
 
 // Fix: a function from a function type to that same type gives it.
 fn fix(types: &[u32], i: NodeNumber, f: TypeNumber) -> u32
-    ensures { λ r. ⌜ r ≡ givenBy (leb 2 (f .0) && (leb 2 (getD (now (types .entry)) (f .0 - 2) 0 / 65536)
-        && eqb (getD (now (types .entry)) (f .0 - 2) 0 / 65536) (getD (now (types .entry)) (f .0 - 2) 0 % 65536)))
-        (getD (now (types .entry)) (f .0 - 2) 0 / 65536) (i .0) ⌝ }
+    ensures { λ r. ⌜ r ≡ fixAnswer (now (types .entry)) (i .0) (f .0) ⌝ }
 {
-    if f.0 < 2 {
+    if f.0 < FIRST_LISTED {
         return fault(9, i);
     }
     let w = listed(types, f);
     let t = high(w);
-    given(both(2 <= t, t == low(w)), TypeNumber(t), i)
+    given(both(FIRST_LISTED <= t, t == low(w)), TypeNumber(t), i)
 }
 
 // Function: the type from t to u, which must be listed.
 fn function(types: &[u32], i: NodeNumber, t: TypeNumber, u: TypeNumber) -> u32
-    ensures { λ r. ⌜ (64 ≤ length (now (types .entry)) → Listing (now (types .entry)) (65536 * t .0 + u .0) (i .0) r) ⌝ }
+    ensures { λ r. ⌜ (maxTypes ≤ length (now (types .entry)) → Listing (now (types .entry)) (pairWord (t .0) (u .0)) (i .0) r) ⌝ }
 {
     if types.len() < MAX_TYPES {
         return fault(10, i);
@@ -144,7 +159,7 @@ fn function(types: &[u32], i: NodeNumber, t: TypeNumber, u: TypeNumber) -> u32
     let mut j: usize = 0;
     while j < MAX_TYPES {
         if types[j] == w {
-            return typed(TypeNumber(2 + (j as u16)));
+            return typed(TypeNumber(FIRST_LISTED + (j as u16)));
         }
         j += 1;
     }
@@ -174,14 +189,14 @@ fn one_rule(types: &[u32], k: u16, i: NodeNumber, e: u32) -> u32
     requires { ⌜ OneChild k ⌝ }
     ensures { λ r. ⌜ Ruled (now (types .entry)) k (i .0) (e ∷ []) r ⌝ }
 {
-    if e < TYPE {
+    if e < TYPE_BASE {
         return e;
     }
     let t = type_in(e);
     match k {
-        2 => given(t.0 == 0, TypeNumber(1), i),
+        2 => given(t.0 == STATIC, TypeNumber(DYNAMIC), i),
         5 => fix(types, i, t),
-        _ => given(t.0 == 1, TypeNumber(1), i),
+        _ => given(t.0 == DYNAMIC, TypeNumber(DYNAMIC), i),
     }
 }
 
@@ -190,15 +205,15 @@ fn two_rule(types: &[u32], k: u16, i: NodeNumber, e: u32, f: u32) -> u32
     ensures { λ r. ⌜ Ruled (now (types .entry)) k (i .0) (e ∷ f ∷ []) r ⌝ }
 {
     let least = lower(e, f);
-    if least < TYPE {
+    if least < TYPE_BASE {
         return least;
     }
     let t = type_in(e);
     let u = type_in(f);
     match k {
         4 => application(types, i, t, u),
-        7 => given(both(t.0 == 0, u.0 == 0), TypeNumber(0), i),
-        _ => given(both(t.0 == 1, u.0 == 1), TypeNumber(1), i),
+        7 => given(both(t.0 == STATIC, u.0 == STATIC), TypeNumber(STATIC), i),
+        _ => given(both(t.0 == DYNAMIC, u.0 == DYNAMIC), TypeNumber(DYNAMIC), i),
     }
 }
 
@@ -207,30 +222,34 @@ fn three_rule(types: &[u32], k: u16, i: NodeNumber, e: u32, f: u32, g: u32) -> u
     ensures { λ r. ⌜ Ruled (now (types .entry)) k (i .0) (e ∷ f ∷ g ∷ []) r ⌝ }
 {
     let least = lower(e, lower(f, g));
-    if least < TYPE {
+    if least < TYPE_BASE {
         return least;
     }
     let t = type_in(e);
     let u = type_in(f);
     let v = type_in(g);
     if k == 6 {
-        return given(both(t.0 == 0, u.0 == v.0), u, i);
+        return given(both(t.0 == STATIC, u.0 == v.0), u, i);
     }
-    given(both(t.0 == 1, both(u.0 == 1, v.0 == 1)), TypeNumber(1), i)
+    given(
+        both(t.0 == DYNAMIC, both(u.0 == DYNAMIC, v.0 == DYNAMIC)),
+        TypeNumber(DYNAMIC),
+        i,
+    )
 }
 
 // A binder, whose parameter has the type p.
 fn binder_rule(types: &[u32], k: u16, p: TypeNumber, i: NodeNumber, e: u32) -> u32
     ensures { λ r. ⌜ BinderRuled (now (types .entry)) k (p .0) (i .0) e r ⌝ }
 {
-    if e < TYPE {
+    if e < TYPE_BASE {
         return e;
     }
     let u = type_in(e);
     if k == 3 {
         return function(types, i, p, u);
     }
-    given(u.0 == 1, TypeNumber(1), i)
+    given(u.0 == DYNAMIC, TypeNumber(DYNAMIC), i)
 }
 
 // The type of a binder's parameter: the one that a function names, or D.
@@ -239,7 +258,7 @@ fn parameter(w: u64) -> TypeNumber
 {
     match kind(w) {
         3 => TypeNumber(field_b(w)),
-        _ => TypeNumber(1),
+        _ => TypeNumber(DYNAMIC),
     }
 }
 
@@ -267,7 +286,7 @@ fn put(s: &mut [u32], i: usize, w: u32)
 fn node(
     nodes: &&[u64],
     types: &[u32; MAX_TYPES],
-    stack: &mut [u32; PLACES],
+    stack: &mut [u32; STACK_PLACES],
     depth: usize,
     i: u16,
 ) -> u32
@@ -280,7 +299,7 @@ fn node(
         3 | 8 => binder(nodes, types, stack, depth, i, w),
         4 | 7 | 9 | 12 => two(nodes, types, stack, depth, i, w),
         6 | 11 => three(nodes, types, stack, depth, i, w),
-        _ => typed(TypeNumber(0)),
+        _ => typed(TypeNumber(STATIC)),
     }
 }
 
@@ -288,7 +307,7 @@ fn node(
 fn child(
     nodes: &&[u64],
     types: &[u32; MAX_TYPES],
-    stack: &mut [u32; PLACES],
+    stack: &mut [u32; STACK_PLACES],
     depth: usize,
     i: u16,
     m: u16,
@@ -298,13 +317,13 @@ fn child(
     if m < i {
         return node(nodes, types, stack, depth, m);
     }
-    typed(TypeNumber(1))
+    typed(TypeNumber(DYNAMIC))
 }
 
 fn one(
     nodes: &&[u64],
     types: &[u32; MAX_TYPES],
-    stack: &mut [u32; PLACES],
+    stack: &mut [u32; STACK_PLACES],
     depth: usize,
     i: u16,
     w: u64,
@@ -319,7 +338,7 @@ fn one(
 fn two(
     nodes: &&[u64],
     types: &[u32; MAX_TYPES],
-    stack: &mut [u32; PLACES],
+    stack: &mut [u32; STACK_PLACES],
     depth: usize,
     i: u16,
     w: u64,
@@ -335,7 +354,7 @@ fn two(
 fn three(
     nodes: &&[u64],
     types: &[u32; MAX_TYPES],
-    stack: &mut [u32; PLACES],
+    stack: &mut [u32; STACK_PLACES],
     depth: usize,
     i: u16,
     w: u64,
@@ -355,7 +374,7 @@ fn three(
 fn binder(
     nodes: &&[u64],
     types: &[u32; MAX_TYPES],
-    stack: &mut [u32; PLACES],
+    stack: &mut [u32; STACK_PLACES],
     depth: usize,
     i: u16,
     w: u64,
@@ -371,7 +390,7 @@ fn binder(
 
 // The words of the listed types, over places that hold none.
 fn pack_types(parameters: &[u16], results: &[u16], count: u16, types: &mut [u32])
-    ensures { λ r. ⌜ (now (types .entry) ≡ replicate 64 4294967295 → count ≤ 64 →
+    ensures { λ r. ⌜ (now (types .entry) ≡ replicate maxTypes unlisted → count ≤ maxTypes →
         Lists count (λ j. getD (now (parameters .entry)) j 0) (λ j. getD (now (results .entry)) j 0) (now (types .exit))) ⌝ }
 {
     let n = count as usize;
@@ -395,27 +414,28 @@ fn bind_inputs(inputs: &[u16], count: u16, stack: &mut [u32])
     }
 }
 
-// The root must be D.
-fn verdict(root: NodeNumber, r: u32) -> Verdict
-    ensures { λ v. ⌜ refusalOf v ≡ rootAnswer (root .0) r ⌝ }
+// The verdict on the root i, whose answer is r: it must be D.
+fn verdict(i: NodeNumber, r: u32) -> Verdict
+    ensures { λ v. ⌜ refusalOf v ≡ rootAnswer (i .0) r ⌝ }
 {
-    if r < TYPE {
+    if r < TYPE_BASE {
         return Verdict::Refused(Refusal {
-            number: (r % 16) as u8,
-            place: (r / 16) as usize,
+            number: (r % FAULT_LIMIT) as u8,
+            place: (r / FAULT_LIMIT) as usize,
         });
     }
     let t = type_in(r);
-    if t.0 == 1 {
+    if t.0 == DYNAMIC {
         return Verdict::Passed;
     }
     Verdict::Refused(Refusal {
         number: 11,
-        place: root.0 as usize,
+        place: i.0 as usize,
     })
 }
 
-fn last(nodes: u16) -> NodeNumber
+// The root's number: the last node's.
+pub fn root(nodes: u16) -> NodeNumber
     ensures { λ r. ⌜ r .0 ≡ nodes - 1 ⌝ }
 {
     if 0 < nodes {
@@ -436,9 +456,9 @@ pub fn annotation_refusal(
 {
     let mut types = [UNLISTED; MAX_TYPES];
     pack_types(parameters, results, n.types, &mut types);
-    let mut stack = [0u32; PLACES];
+    let mut stack = [0u32; STACK_PLACES];
     bind_inputs(inputs, n.inputs, &mut stack);
-    let root = last(n.nodes);
+    let i = root(n.nodes);
     let depth = n.inputs as usize;
-    verdict(root, node(&nodes, &types, &mut stack, depth, root.0))
+    verdict(i, node(&nodes, &types, &mut stack, depth, i.0))
 }

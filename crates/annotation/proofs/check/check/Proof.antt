@@ -15,7 +15,7 @@ returns c = c .before .check-in .ensures
 
 check-in-requires-2 : tie.Need-check-in-requires-2
 unfolding maxNodes
-check-in-requires-2 c κs = omega (arith, length-replicate {A = ℕ} 4096 0)
+check-in-requires-2 c κs = omega (arith, length-replicate {A = ℕ} maxNodes 0)
 
 returns-2 : tie.Need-returns-2
 returns-2 c = c .before .check-in2 .ensures

@@ -5,14 +5,17 @@ use Prim.Native.Nat.{ℕ}
 use mathlib.Core.Path.{refl}
 use native.Mathlib.Omega.{arith}
 use lib.ListN.{length-replicate}
+use Rattle.lambdamix.specs.Limits.{maxTypes, maxInputs, maxHeight}
+use Rattle.annotation.specs.Walks.{stackPlaces}
 use Rattle.annotation.proofs.Root.{at-root}
 use Rattle.annotation.proofs.typing.annotation_refusal.Statement.{statement}
 use Rattle.annotation.proofs.typing.annotation_refusal.Tie as tie
 
 returns : tie.Need-returns
+unfolding maxTypes maxInputs maxHeight
 returns c =
-    at-root (c .before .before .before .before .before .before .before .before .before .before .before .pack-types .ensures refl) (λ l. c .before .before .before .before .before .before .before .before .bind-inputs .ensures (omega (arith, length-replicate {A = ℕ} 272 0)))
-    (omega (arith, c .before .before .before .before .before .before .before .before .bind-inputs .kept, length-replicate {A = ℕ} 272 0)) (c .before .before .before .before .before .before .last .ensures) (c .before .node .ensures) (c .verdict .ensures)
+    at-root (c .before .before .before .before .before .before .before .before .before .before .before .pack-types .ensures refl) (λ l. c .before .before .before .before .before .before .before .before .bind-inputs .ensures (omega (arith, length-replicate {A = ℕ} stackPlaces 0)))
+    (omega (arith, c .before .before .before .before .before .before .before .before .bind-inputs .kept, length-replicate {A = ℕ} stackPlaces 0)) (c .before .before .before .before .before .before .root .ensures) (c .before .node .ensures) (c .verdict .ensures)
 
 pub annotation-refusal-spec : {M : Type 1} → statement M
 annotation-refusal-spec =

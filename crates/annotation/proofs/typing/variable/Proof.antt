@@ -1,13 +1,13 @@
 -- `annotation::typing::variable` meets its contract: what is looked for among all binders is what is looked for among the first d; the measure is d. Assumes nothing.
 use borrow.Author.Needs.{needs}
-use Prim.Native.Nat.{ℕ, suc, _-_, _/_, _%_, _<_, _≤_}
+use Prim.Native.Nat.{ℕ, suc, _-_, _<_, _≤_}
 use mathlib.Core.Path.{_≡_, refl, sym, _∙_}
 use mathlib.Core.List.{List}
 use native.Mathlib.Omega.{arith}
 use lib.ListN.{getD, length}
 use lib.Dec.{eqb}
 use borrow.Author.Tests.{eq-eqb, ne-eqb}
-use Rattle.annotation.specs.Answers.{pick, typeAnswer}
+use Rattle.annotation.specs.Answers.{pick, highHalf, lowHalf, typeAnswer}
 use Rattle.annotation.specs.Walks.{bound}
 use Rattle.annotation.proofs.typing.variable.Statement.{statement}
 use Rattle.annotation.proofs.typing.variable.Tie as tie
@@ -16,14 +16,14 @@ module _ (binders : List ℕ) (x i d : ℕ) where
   last-first :
       0 < d →
       bound binders x i d
-      ≡ pick (eqb (getD binders (d - 1) 0 / 65536) x) (typeAnswer (getD binders (d - 1) 0 % 65536)) (bound binders x i (d - 1))
+      ≡ pick (eqb (highHalf (getD binders (d - 1) 0)) x) (typeAnswer (lowHalf (getD binders (d - 1) 0))) (bound binders x i (d - 1))
   unfolding bound
   last-first h = let e : suc (d - 1) ≡ d = omega arith in let f : suc (d - 1) - 1 ≡ d - 1 = omega arith in rw (← e, f)
 
-  found-here : 0 < d → getD binders (d - 1) 0 / 65536 ≡ x → bound binders x i d ≡ typeAnswer (getD binders (d - 1) 0 % 65536)
+  found-here : 0 < d → highHalf (getD binders (d - 1) 0) ≡ x → bound binders x i d ≡ typeAnswer (lowHalf (getD binders (d - 1) 0))
   found-here h e = last-first h ∙ rw (eq-eqb _ _ e)
 
-  not-here : 0 < d → (getD binders (d - 1) 0 / 65536 ≡ x → ⊥) → bound binders x i d ≡ bound binders x i (d - 1)
+  not-here : 0 < d → (highHalf (getD binders (d - 1) 0) ≡ x → ⊥) → bound binders x i d ≡ bound binders x i (d - 1)
   not-here h e = last-first h ∙ rw (ne-eqb _ _ e)
 
 abbrev Inv-loop : tie.InvT-loop

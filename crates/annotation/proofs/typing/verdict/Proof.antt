@@ -1,11 +1,10 @@
 -- `annotation::typing::verdict` meets its contract: each case is a case of the definition. Assumes nothing.
 use borrow.Author.Needs.{needs}
 use borrow.Author.Tests.{lt-ltb, le-ltb, eq-eqb, ne-eqb}
-use Prim.Native.Nat.{_%_}
 use mathlib.Core.Path.{_∙_}
 use native.Mathlib.Omega.{arith}
 use Rattle.script.specs.Replies.{refusalOf}
-use Rattle.annotation.specs.Answers.{rootAnswer}
+use Rattle.annotation.specs.Answers.{typeIn, rootAnswer}
 use Rattle.annotation.proofs.typing.verdict.Statement.{statement}
 use Rattle.annotation.proofs.typing.verdict.Tie as tie
 
@@ -15,7 +14,7 @@ returns c = rw (lt-ltb _ _ (c .if1 .taken))
 
 returns-2 : tie.Need-returns-2
 unfolding refusalOf rootAnswer
-returns-2 c = rw (le-ltb _ _ (c .before .before .before .if1 .left), eq-eqb (c .before .before .before .before .args .r % 65536) 1 (omega (arith, c .before .before .type-in .ensures, c .if2 .taken)))
+returns-2 c = rw (le-ltb _ _ (c .before .before .before .if1 .left), eq-eqb (typeIn (c .before .before .before .before .args .r)) 1 (omega (arith, c .before .before .type-in .ensures, c .if2 .taken)))
 
 returns-3 : tie.Need-returns-3
 unfolding refusalOf rootAnswer
