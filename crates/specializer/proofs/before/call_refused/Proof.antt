@@ -16,7 +16,7 @@ returns-2 : tie.Need-returns-2
 unfolding laterRefusal tablesScript rowInput inputRow
 returns-2 c =
     λ ks xs ys zs vs ok p ss l. passed-first _ _ (c .before .before .before .annotation-by .ensures ks xs ys zs vs ok p) (c .before .enum-told .given .1)
-    (λ e. c .late-refusal .ensures _ ss refl l)
+    (λ e. c .call-or-stores-refusal .ensures _ ss refl l)
 
 pub call-refused-spec : {M : Type 1} → statement M
 call-refused-spec =

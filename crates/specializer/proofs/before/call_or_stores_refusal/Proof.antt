@@ -1,8 +1,8 @@
--- `specializer::before::late_refusal` meets its contract: the first of two refusals is told. Assumes nothing.
+-- `specializer::before::call_or_stores_refusal` meets its contract: the first of two refusals is told. Assumes nothing.
 use Rattle.annotation.proofs.Joining.{refused-first, passed-first}
 use borrow.Author.Needs.{needs}
-use Rattle.specializer.proofs.before.late_refusal.Statement.{statement}
-use Rattle.specializer.proofs.before.late_refusal.Tie as tie
+use Rattle.specializer.proofs.before.call_or_stores_refusal.Statement.{statement}
+use Rattle.specializer.proofs.before.call_or_stores_refusal.Tie as tie
 
 returns : tie.Need-returns
 returns c = λ s zs i l. refused-first _ (c .before .before .before .call-refusal .ensures s zs i l) (c .before .f .given .1)
@@ -10,8 +10,8 @@ returns c = λ s zs i l. refused-first _ (c .before .before .before .call-refusa
 returns-2 : tie.Need-returns-2
 returns-2 c = λ s zs i l. passed-first _ _ (c .before .before .before .call-refusal .ensures s zs i l) (c .before .enum-told .given .1) (λ e. c .stores-refusal .ensures)
 
-pub late-refusal-spec : {M : Type 1} → statement M
-late-refusal-spec =
+pub call-or-stores-refusal-spec : {M : Type 1} → statement M
+call-or-stores-refusal-spec =
     tie.close
     (tie.spec
     (λ c κs. search needs)
