@@ -207,7 +207,7 @@ constant-returns : (t : ℕ) → emit-lts.Need-returns-6 (emit-calls t) (emit-at
 constant-returns t c =
     let a = c .before .before .before .before .before .before .before .before .before .args in
     let r = c .before .before .before .before .before .match .rest in
-    emits-constant (is-constant (record { word = c .before .before .before .before .before .before .before .before .before .pre .1 .1 .1; kind = c .before .before .before .before .before .before .kind .ensures }) (r .0 .0 .0 .0 .1) (r .0 .0 .0 .1) (r .0 .0 .1) (r .0 .1) (r .1) .code) (toZ-ofZ {w = w32} (record { sfits = c .before .before .before .value .ok }) ∙ c .before .before .before .value .ensures) (c .before .before .emit-constant .ensures)
+    emits-constant (is-constant (record { word = c .before .before .before .before .before .before .before .before .before .pre .1 .1 .1; kind = c .before .before .before .before .before .before .kind .ensures }) (r .0 .0 .0 .0 .1) (r .0 .0 .0 .1) (r .0 .0 .1) (r .0 .1) (r .1) .code) (_∙_ {b = c .before .before .before .value .result} (toZ-ofZ {w = w32} (record { sfits = c .before .before .before .value .ok })) (search (c .before .before .before .value .ensures))) (c .before .before .emit-constant .ensures)
 
 -- ---- emit_piece
 
