@@ -11,7 +11,7 @@ use lib.ListN.{length, take}
 use lib.Seq.{take-at}
 use lib.Dec.{leb, ltb}
 use borrow.Author.Tests.{le-leb, leb-true}
-use Rattle.lambdamix.specs.Limits.{maxNodes, maxHeight, maxFuel}
+use Rattle.lambdamix.specs.Limits.{maxInputs, maxNodes, maxHeight, maxFuel}
 use Rattle.lambdamix.specs.Script.{Script, nodeCount}
 use Rattle.lambdamix.specs.Checker.{Refusal, annotationRefusal}
 use Rattle.lambdamix.specs.Structure.{orElse}
@@ -35,7 +35,7 @@ use Rattle.specializer.specs.Making.{Stores, storesSuffice, storesAfter, number
 use Rattle.specializer.specs.declared.Reply.{Reply}
 use Rattle.specializer.specs.declared.Reply.the-variants as Reply
 use Rattle.specializer.specs.Entry.{replied, Makes}
-use Rattle.respond.specs.Response.{programFuel, wholeSettings, settingsReply, unmadeText, replyText}
+use Rattle.respond.specs.Response.{programFuel, maxBytes, wholeSettings, settingsReply, unmadeText, replyText}
 use Rattle.respond.specs.Given.{givenSettings}
 use Rattle.respond.specs.Answers.{laterRefusal}
 use Rattle.respond.specs.Stages.{Prints, countsText, PrintsMade, Held, AnswersScript}
@@ -49,8 +49,8 @@ made-length : (s : Script) (c : Code) → length (fileBytes (written s c)) ≡ f
 unfolding written nodeCount
 made-length s c = file-length (written s c) ∙ ap (fileLength 0 (length (s .inputs))) (written-size s c)
 
-made-room : (s : Script) → length (s .inputs) ≤ 16 → (c : Code) → fits c ≡ true → length (fileBytes (written s c)) ≤ 65536
-unfolding fits fileLength nodeOffset maxNodes
+made-room : (s : Script) → length (s .inputs) ≤ maxInputs → (c : Code) → fits c ≡ true → length (fileBytes (written s c)) ≤ maxBytes
+unfolding fits fileLength nodeOffset maxInputs maxNodes maxBytes
 made-room s few c e =
     omega (arith, made-length s c, leb-true (size c) maxNodes (and-both (leb (size c) maxNodes) (leb (codeHeight c) maxHeight) e .0))
 
@@ -80,7 +80,7 @@ module _ {n : Counts} {x : Tables} (rest : List ℕ) {file made : List ℕ} {bef
     abbrev script : Script
     script = scriptIn bs
 
-    few : length (script .inputs) ≤ 16
+    few : length (script .inputs) ≤ maxInputs
     few = few-inputs bs (h .read)
 
     later : orElse (annotationRefusal script) (callRefusal script (givenSettings rest) programFuel) ≡ laterRefusal script rest
@@ -131,7 +131,7 @@ module _ {n : Counts} {x : Tables} (rest : List ℕ) {file made : List ℕ} {bef
         let c : Code = t .code in
         let annotated : annotationRefusal s ≡ none = neither _ _ (t .free) .0 in
         let (fit, passes, again) =
-        written-again s (script-passes bs (h .read)) annotated (values-fit bs (h .bytes)) zs (settings-fit rest all) programFuel (omega arith) c k (t .run) (t .fitting) in
+        written-again s (script-passes bs (h .bytes) (h .read)) annotated (values-fit bs (h .bytes)) zs (settings-fit rest all) programFuel (omega arith) c k (t .run) (t .fitting) in
         let same : scriptIn (fileBytes (written s c)) ≡ written s c = read-written (written s c) fit in
         let read : fileRefusal (fileBytes (written s c)) ≡ none = file-refusal (written s c) fit ∙ passes in
         let part : take (fileLength 0 (n .inputs) l) made ≡ fileBytes (written s c) = file-part bs h c (t .nodes) (t .file) in

@@ -1,6 +1,6 @@
 -- A file that passes 1 to 8 and the tables that hold it. Assumes nothing.
 use Prim.Native.Nat.{ℕ, _≤_}
-use mathlib.Core.Path.{_≡_, ap, _∙_}
+use mathlib.Core.Path.{_≡_, sym, ap, _∙_}
 use mathlib.Core.Bool.{true}
 use mathlib.Core.List.{List}
 use mathlib.Core.Option.{none}
@@ -8,16 +8,18 @@ use native.Mathlib.Omega.{arith}
 use lib.ListN.{length}
 use lib.Dec.{leb}
 use borrow.Author.Tests.{le-leb, leb-true}
-use Rattle.lambdamix.specs.Structure.{orElse, structureRefusal, refusedUnless}
+use Rattle.lambdamix.specs.Limits.{maxTypes, maxInputs, maxNodes}
 use Rattle.lambdamix.proofs.Tests.{and-both, and-intro}
 use Rattle.script.specs.declared.Counts.{Counts}
 use Rattle.script.specs.File.{headTypes, headInputs, headNodes, scriptIn}
-use Rattle.script.specs.Refusals.{countsRight, contentRefusal, scriptRefusal, bodyRefusal, fileRefusal}
+use Rattle.script.specs.Refusals.{countsRight, scriptRefusal, fileRefusal}
 use Rattle.file.specs.Heads.{headCounts}
+use Rattle.file.specs.Encodable.{AllBytes}
 use Rattle.script.specs.Tables.{Tables, tablesRefusal, longEnough}
-use Rattle.script.proofs.RefusalLaws.{neither, no-earlier, not-refused, pass-over}
+use Rattle.script.proofs.RefusalLaws.{neither, not-refused, pass-over}
 use Rattle.file.proofs.RecordLaws.{numbered-length}
 use Rattle.file.proofs.ContentLaws.{in-limits}
+use Rattle.file.proofs.FileLaws.{file-refusal, read-fits, written-read}
 use Rattle.respond.specs.Stages.{Held}
 
 pub script-counts :
@@ -26,33 +28,18 @@ pub script-counts :
 unfolding scriptIn
 script-counts bs = (numbered-length _ 0 (headTypes bs), numbered-length _ 0 (headInputs bs), numbered-length _ 0 (headNodes bs))
 
--- what no refusal says of a file
-pub record FilePasses (bs : List ℕ) : Type 0 where
-  pub counts : countsRight (headTypes bs) (headInputs bs) (headNodes bs) ≡ true
-  pub content : contentRefusal (scriptIn bs) ≡ none
-  pub structure : structureRefusal (scriptIn bs) ≡ none
-
-pub file-passes : (bs : List ℕ) → fileRefusal bs ≡ none → FilePasses bs
-unfolding fileRefusal bodyRefusal
-file-passes bs e =
+pub file-counts : (bs : List ℕ) → fileRefusal bs ≡ none → countsRight (headTypes bs) (headInputs bs) (headNodes bs) ≡ true
+unfolding fileRefusal
+file-counts bs e =
     let after-mark = neither _ _ (neither _ _ e .1) .1 in
-    let counted = neither _ _ after-mark in
-    let body = neither _ _ (neither _ _ (counted .1) .1) in
-    record {
-      counts = not-refused _ _ _ (counted .0);
-      content = no-earlier _ _ (body .0) .1;
-      structure = body .1;
-    }
+    not-refused _ _ _ (neither _ _ after-mark .0)
 
-pub script-passes : (bs : List ℕ) → fileRefusal bs ≡ none → scriptRefusal (scriptIn bs) ≡ none
-unfolding scriptRefusal refusedUnless orElse
-script-passes bs e =
-    let p = file-passes bs e in
-    let c = script-counts bs in
-    rw (c .0, c .1, c .2, p .counts, p .content, p .structure)
+pub script-passes : (bs : List ℕ) → AllBytes bs → fileRefusal bs ≡ none → scriptRefusal (scriptIn bs) ≡ none
+script-passes bs all e = sym (file-refusal (scriptIn bs) (read-fits bs all)) ∙ ap fileRefusal (written-read bs all e) ∙ e
 
-pub few-inputs : (bs : List ℕ) → fileRefusal bs ≡ none → length (scriptIn bs .inputs) ≤ 16
-few-inputs bs e = omega (arith, script-counts bs .1, in-limits _ _ _ (file-passes bs e .counts) .inputs)
+pub few-inputs : (bs : List ℕ) → fileRefusal bs ≡ none → length (scriptIn bs .inputs) ≤ maxInputs
+unfolding maxInputs
+few-inputs bs e = omega (arith, script-counts bs .1, in-limits _ _ _ (file-counts bs e) .inputs)
 
 -- ---- tables that are long enough for every file
 
@@ -60,8 +47,8 @@ lower : {a b : ℕ} (x : ℕ) → a ≤ b → leb b x ≡ true → leb a x ≡ t
 lower {a} {b} x h e = le-leb a x (omega (arith, leb-true b x e))
 
 pub long-for :
-    (t i n : ℕ) (x : Tables) → countsRight t i n ≡ true → longEnough 64 16 4096 x ≡ true → longEnough t i n x ≡ true
-unfolding longEnough
+    (t i n : ℕ) (x : Tables) → countsRight t i n ≡ true → longEnough maxTypes maxInputs maxNodes x ≡ true → longEnough t i n x ≡ true
+unfolding longEnough maxTypes maxInputs maxNodes
 long-for t i n x h e =
     let l = in-limits t i n h in
     let (types, rest) = and-both _ _ e in
@@ -81,7 +68,7 @@ pub held-passes :
 unfolding tablesRefusal headCounts
 held-passes {bs} {n} {x} h =
     let counts : countsRight (n .types) (n .inputs) (n .nodes) ≡ true =
-    ap (λ (m : Counts). countsRight (m .types) (m .inputs) (m .nodes)) (h .counts) ∙ file-passes bs (h .read) .counts in
+    ap (λ (m : Counts). countsRight (m .types) (m .inputs) (m .nodes)) (h .counts) ∙ file-counts bs (h .read) in
     pass-over 1 0 _ (long-for (n .types) (n .inputs) (n .nodes) x counts (h .room))
     ∙ ap scriptRefusal (h .script)
-    ∙ script-passes bs (h .read)
+    ∙ script-passes bs (h .bytes) (h .read)

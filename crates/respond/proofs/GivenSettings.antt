@@ -1,6 +1,6 @@
 -- The maker with the settings as it is given them replies as with the settings that follow the script; where these are not whole
--- records, or more than 16, it is 12 in its place. Assumes nothing.
-use Prim.Native.Nat.{ℕ, _+_, _*_, _/_, _≤_, _<_}
+-- records, or more than a script has inputs, it is 12 in its place. Assumes nothing.
+use Prim.Native.Nat.{ℕ, _+_, _*_, _/_, _≤_}
 use mathlib.Core.Path.{_≡_, refl, sym, _∙_}
 use mathlib.Core.Bool.{Bool, true, false, not, _&&_}
 use mathlib.Core.List.{List, [], _∷_}
@@ -11,6 +11,7 @@ use lib.IntN.{ℤ, pos}
 use lib.ListN.{length, getD, List·getD-eq-default}
 use lib.Dec.{ltb, eqb}
 use borrow.Author.Tests.{ne-eqb, ltb-true, ltb-false}
+use Rattle.lambdamix.specs.Limits.{maxInputs}
 use Rattle.lambdamix.specs.Script.{Script}
 use Rattle.lambdamix.specs.Checker.{Refusal, annotationRefusal}
 use Rattle.lambdamix.specs.Structure.{orElse, oneIf, refusedUnless}
@@ -21,7 +22,7 @@ use Rattle.script.specs.File.{numbered}
 use Rattle.file.specs.Encodable.{AllBytes}
 use Rattle.file.proofs.ByteLaws.{value-small}
 use Rattle.file.proofs.RecordLaws.{numbered-length, numbered-at}
-use Rattle.respond.specs.Response.{programFuel, wholeSettings, settingAt, settings, settingsReply}
+use Rattle.respond.specs.Response.{programFuel, programSettings, wholeSettings, settingAt, settings, settingsReply}
 use Rattle.respond.specs.Given.{givenBy, givenCount, givenSettings}
 use Rattle.respond.specs.Answers.{settingsRefusal}
 
@@ -39,29 +40,29 @@ static-few (t ∷ ts) = go (not (eqb t 1)) (static-few ts)
     go true h = omega arith
     go false h = omega arith
 
-module _ (s : Script) (few : length (s .inputs) ≤ 16) where
-  too-many : (zs : List ℤ) → 16 < length zs → callRefusal s zs programFuel ≡ twelve
-  unfolding callRefusal refusedUnless orElse
+module _ (s : Script) (few : length (s .inputs) ≤ maxInputs) where
+  too-many : (zs : List ℤ) → programSettings ≤ length zs → callRefusal s zs programFuel ≡ twelve
+  unfolding callRefusal refusedUnless orElse programSettings maxInputs
   too-many zs h = rw (ne-eqb (length zs) (staticInputs (s .inputs)) (λ e. omega (arith, static-few (s .inputs))))
 
   -- ---- the refusal of settings that are given
 
   pub given-refusal : (bs : List ℕ) → callRefusal s (givenSettings bs) programFuel ≡ settingsRefusal (wholeSettings bs) s bs
   unfolding givenSettings givenCount givenBy settingsRefusal settings
-  given-refusal bs = go (ltb (length bs / 6) 17) (wholeSettings bs) refl
+  given-refusal bs = go (ltb (length bs / 6) programSettings) (wholeSettings bs) refl
     where
-      many : 17 ≤ length bs / 6 → callRefusal s (settings bs) programFuel ≡ twelve
+      many : programSettings ≤ length bs / 6 → callRefusal s (settings bs) programFuel ≡ twelve
       many h = too-many (settings bs) (omega (arith, numbered-length (settingAt bs) 0 (length bs / 6)))
 
-      bad : callRefusal s (numbered (settingAt bs) 0 17) programFuel ≡ twelve
-      bad = too-many (numbered (settingAt bs) 0 17) (omega (arith, numbered-length (settingAt bs) 0 17))
+      bad : callRefusal s (numbered (settingAt bs) 0 programSettings) programFuel ≡ twelve
+      bad = too-many (numbered (settingAt bs) 0 programSettings) (omega (arith, numbered-length (settingAt bs) 0 programSettings))
 
       go :
-          (f w : Bool) → ltb (length bs / 6) 17 ≡ f →
+          (f w : Bool) → ltb (length bs / 6) programSettings ≡ f →
           callRefusal s (numbered (settingAt bs) 0 (givenBy (f && w) (length bs / 6))) programFuel ≡ settingsRefusal w s bs
       go true true e = refl
       go true false e = bad
-      go false true e = bad ∙ sym (many (ltb-false (length bs / 6) 17 e))
+      go false true e = bad ∙ sym (many (ltb-false (length bs / 6) programSettings e))
       go false false e = bad
 
 -- ---- the reply
@@ -77,31 +78,31 @@ module _ (s : Script) (zs : List ℤ) where
       go none = refl
       go (some f) = refl
 
-pub given-reply : (s : Script) → length (s .inputs) ≤ 16 → (bs : List ℕ) → make s (givenSettings bs) programFuel ≡ settingsReply (wholeSettings bs) s bs
+pub given-reply : (s : Script) → length (s .inputs) ≤ maxInputs → (bs : List ℕ) → make s (givenSettings bs) programFuel ≡ settingsReply (wholeSettings bs) s bs
 unfolding givenSettings givenCount givenBy settingsReply settings
-given-reply s few bs = go (ltb (length bs / 6) 17) (wholeSettings bs) refl
+given-reply s few bs = go (ltb (length bs / 6) programSettings) (wholeSettings bs) refl
   where
-    bad : make s (numbered (settingAt bs) 0 17) programFuel ≡ unlessRefused (annotationRefusal s) (unmade 12 0 0)
+    bad : make s (numbered (settingAt bs) 0 programSettings) programFuel ≡ unlessRefused (annotationRefusal s) (unmade 12 0 0)
     bad =
-        refused-reply s (numbered (settingAt bs) 0 17)
-        (too-many s few (numbered (settingAt bs) 0 17) (omega (arith, numbered-length (settingAt bs) 0 17)))
+        refused-reply s (numbered (settingAt bs) 0 programSettings)
+        (too-many s few (numbered (settingAt bs) 0 programSettings) (omega (arith, numbered-length (settingAt bs) 0 programSettings)))
 
-    many : 17 ≤ length bs / 6 → make s (settings bs) programFuel ≡ unlessRefused (annotationRefusal s) (unmade 12 0 0)
+    many : programSettings ≤ length bs / 6 → make s (settings bs) programFuel ≡ unlessRefused (annotationRefusal s) (unmade 12 0 0)
     many h =
         refused-reply s (settings bs)
         (too-many s few (settings bs) (omega (arith, numbered-length (settingAt bs) 0 (length bs / 6))))
 
     go :
-        (f w : Bool) → ltb (length bs / 6) 17 ≡ f →
+        (f w : Bool) → ltb (length bs / 6) programSettings ≡ f →
         make s (numbered (settingAt bs) 0 (givenBy (f && w) (length bs / 6))) programFuel ≡ settingsReply w s bs
     go true true e = refl
     go true false e = bad
-    go false true e = bad ∙ sym (many (ltb-false (length bs / 6) 17 e))
+    go false true e = bad ∙ sym (many (ltb-false (length bs / 6) programSettings e))
     go false false e = bad
 
--- more than 16 settings are 12, whatever they are
+-- more settings than a script has inputs are 12, whatever they are
 pub many-settings :
-    (s : Script) → length (s .inputs) ≤ 16 → (bs : List ℕ) → 17 ≤ length bs / 6 →
+    (s : Script) → length (s .inputs) ≤ maxInputs → (bs : List ℕ) → programSettings ≤ length bs / 6 →
     settingsReply (wholeSettings bs) s bs ≡ unlessRefused (annotationRefusal s) (unmade 12 0 0)
 unfolding settingsReply settings
 many-settings s few bs h = go (wholeSettings bs)

@@ -8,6 +8,7 @@ use native.Mathlib.Omega.{arith}
 use lib.ListN.{length, take, drop, length-append, length-drop, length-map}
 use lib.Dec.{leb}
 use borrow.Author.Tests.{le-leb, leb-true}
+use Rattle.lambdamix.specs.Limits.{maxTypes, maxInputs, maxNodes}
 use Rattle.lambdamix.specs.Script.{Script, FunctionType, Node, nodeCount}
 use Rattle.lambdamix.specs.Checker.{Refusal}
 use Rattle.lambdamix.specs.Structure.{orElse, refusedUnless}
@@ -29,8 +30,9 @@ use Rattle.file.proofs.FileLaws.{read-fits}
 use Rattle.printer.specs.Answers.{tablesText}
 use Rattle.printer.proofs.Writing.{join}
 use Rattle.printer.proofs.ListingBound.{listing-bytes}
-use Rattle.respond.specs.Stages.{CountsPlaced, ListsAt, ListsFile, PrintsMade, Held}
-use Rattle.respond.proofs.Files.{script-counts, file-passes, script-passes, long-for, held-passes}
+use Rattle.respond.specs.Response.{maxBytes}
+use Rattle.respond.specs.Stages.{linesBytes, listingBytes, CountsPlaced, ListsAt, ListsFile, PrintsMade, Held}
+use Rattle.respond.proofs.Files.{script-counts, file-counts, script-passes, long-for, held-passes}
 use Rattle.respond.proofs.Splitting.{front-part}
 
 -- ---- columns that are filled stay as long as they are
@@ -42,8 +44,8 @@ still-long k new old h e =
     le-leb k (length (new ++ drop (length new) old)) (simp (length-append, length-drop) (omega (arith, leb-true k (length old) e)))
 
 filled-long :
-    (s : Script) (x : Tables) → length (s .types) ≤ 64 → length (s .inputs) ≤ 16 → length (s .nodes) ≤ 4096 →
-    longEnough 64 16 4096 x ≡ true → longEnough 64 16 4096 (filled s x) ≡ true
+    (s : Script) (x : Tables) → length (s .types) ≤ maxTypes → length (s .inputs) ≤ maxInputs → length (s .nodes) ≤ maxNodes →
+    longEnough maxTypes maxInputs maxNodes x ≡ true → longEnough maxTypes maxInputs maxNodes (filled s x) ≡ true
 unfolding longEnough filled
 filled-long s x t i n e =
     let (types, rest) = and-both _ _ e in
@@ -55,28 +57,28 @@ filled-long s x t i n e =
     let (zs, vs) = and-both _ _ others in
     and-intro
     (and-intro (typed (λ (u : FunctionType). u .parameter) (x .parameters) ps) (typed (λ (u : FunctionType). u .result) (x .results) rs))
-    (and-intro (still-long 16 (s .inputs) (x .inputs) i inputs)
+    (and-intro (still-long maxInputs (s .inputs) (x .inputs) i inputs)
     (and-intro (and-intro (noded (λ (d : Node). d .kind) (x .kinds) ks) (noded (λ (d : Node). d .a) (x .a) xs))
     (and-intro (noded (λ (d : Node). d .b) (x .b) ys)
     (and-intro (noded (λ (d : Node). d .c) (x .c) zs) (noded (λ (d : Node). d .value) (x .values) vs)))))
   where
-    typed : (f : FunctionType → ℕ) (old : List ℕ) → leb 64 (length old) ≡ true → leb 64 (length (over (map f (s .types)) old)) ≡ true
-    typed f old h = still-long 64 (map f (s .types)) old (omega (arith, length-map (s .types) f)) h
+    typed : (f : FunctionType → ℕ) (old : List ℕ) → leb maxTypes (length old) ≡ true → leb maxTypes (length (over (map f (s .types)) old)) ≡ true
+    typed f old h = still-long maxTypes (map f (s .types)) old (omega (arith, length-map (s .types) f)) h
 
     noded :
-        {A : Type 0} (f : Node → A) (old : List A) → leb 4096 (length old) ≡ true →
-        leb 4096 (length (over (map f (s .nodes)) old)) ≡ true
-    noded f old h = still-long 4096 (map f (s .nodes)) old (omega (arith, length-map (s .nodes) f)) h
+        {A : Type 0} (f : Node → A) (old : List A) → leb maxNodes (length old) ≡ true →
+        leb maxNodes (length (over (map f (s .nodes)) old)) ≡ true
+    noded f old h = still-long maxNodes (map f (s .nodes)) old (omega (arith, length-map (s .nodes) f)) h
 
 -- ---- the reader's answer, where the tables are long enough for every file
 
 refused-not-read : {f : Told.Refusal} {n : Counts} → Reading.Refused f ≡ Reading.Read n → ⊥
 refused-not-read e = let z : _≡_ {A = ℕ} 0 1 = cc in omega arith
 
-module _ {bs : List ℕ} {x y : Tables} {r : Reading} (room : longEnough 64 16 4096 x ≡ true) (reads : Reads bs x y r) where
+module _ {bs : List ℕ} {x y : Tables} {r : Reading} (room : longEnough maxTypes maxInputs maxNodes x ≡ true) (reads : Reads bs x y r) where
   not-short : fileRefusal bs ≡ none → readRefusal bs x ≡ none
   unfolding readRefusal refusedUnless orElse
-  not-short e = rw (e, long-for (headTypes bs) (headInputs bs) (headNodes bs) x (file-passes bs e .counts) room)
+  not-short e = rw (e, long-for (headTypes bs) (headInputs bs) (headNodes bs) x (file-counts bs e) room)
 
   pub read-passes : {n : Counts} → r ≡ Reading.Read n → fileRefusal bs ≡ none
   unfolding readRefusal reading orElse
@@ -99,7 +101,7 @@ module _ {bs : List ℕ} {x y : Tables} {r : Reading} (room : longEnough 64 16 4
           ap (λ (w : Told.Refusal). some (record { number = w .number; place = w .place })) (sym v)
 
   pub held : AllBytes bs → {n : Counts} → r ≡ Reading.Read n → Held bs n y
-  unfolding reading readTables headCounts
+  unfolding reading readTables headCounts maxTypes maxInputs maxNodes
   held all {n} q =
       let e : fileRefusal bs ≡ none = read-passes q in
       let none-told : readRefusal bs x ≡ none = not-short e in
@@ -107,7 +109,7 @@ module _ {bs : List ℕ} {x y : Tables} {r : Reading} (room : longEnough 64 16 4
       let counts : n ≡ headCounts bs = cc in
       let tables : y ≡ filled (scriptIn bs) x = rw none-told at (reads .tables) in
       let c = script-counts bs in
-      let l = in-limits (headTypes bs) (headInputs bs) (headNodes bs) (file-passes bs e .counts) in
+      let l = in-limits (headTypes bs) (headInputs bs) (headNodes bs) (file-counts bs e) in
       record {
         bytes = all;
         read = e;
@@ -121,12 +123,12 @@ module _ {bs : List ℕ} {x y : Tables} {r : Reading} (room : longEnough 64 16 4
 
 -- ---- the listing of a file
 
-file-bytes : (bs : List ℕ) → AllBytes bs → fileRefusal bs ≡ none → length (listing (scriptIn bs)) ≤ 53249
-unfolding nodeCount
+file-bytes : (bs : List ℕ) → AllBytes bs → fileRefusal bs ≡ none → length (listing (scriptIn bs)) ≤ listingBytes
+unfolding nodeCount listingBytes maxNodes
 file-bytes bs all e =
     let c = script-counts bs in
-    let l = in-limits (headTypes bs) (headInputs bs) (headNodes bs) (file-passes bs e .counts) in
-    omega (arith, listing-bytes (scriptIn bs) (read-fits bs all) (script-passes bs e), c .2, l .nodes)
+    let l = in-limits (headTypes bs) (headInputs bs) (headNodes bs) (file-counts bs e) in
+    omega (arith, listing-bytes (scriptIn bs) (read-fits bs all) (script-passes bs all e), c .2, l .nodes)
 
 module _ {bs : List ℕ} {x y : Tables} {r : Reading} {at : ℕ} {before : List ℕ} (reads : Reads bs x y r) where
   pub file-listed :
@@ -161,6 +163,7 @@ pub made-printed :
     {i k n size end at r : ℕ} {file x x₁ y : List ℕ} {t : Tables} →
     end ≡ min size (length file) → size ≡ fileLength 0 i n → length x₁ ≡ length x → CountsPlaced k n x x₁ at →
     ListsFile (take (end - 0) (drop 0 file)) t at x₁ y r → PrintsMade i k n file t x y r
+unfolding linesBytes listingBytes maxBytes maxNodes
 made-printed {i} {k} {n} {file = file} e s same c l =
     let part = front-part (fileLength 0 i n) file (e ∙ ap (λ (m : ℕ). min m (length file)) s) in
     record {

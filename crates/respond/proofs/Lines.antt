@@ -19,8 +19,8 @@ use Rattle.printer.specs.Places.{Put, Placed, most}
 use Rattle.printer.specs.Answers.{tablesText, roomRefusal, listRefusal, listed, listedOutput, ListsTables}
 use Rattle.printer.proofs.Digits.{digits-within}
 use Rattle.printer.proofs.Writing.{placed, join}
-use Rattle.respond.specs.Response.{unmadeText}
-use Rattle.respond.specs.Stages.{Prints, opening, countsText, CountsPlaced, ListsAt}
+use Rattle.respond.specs.Response.{maxBytes, unmadeText}
+use Rattle.respond.specs.Stages.{linesBytes, Prints, opening, countsText, CountsPlaced, ListsAt}
 
 regroup : (a b c d e : List ℕ) → (((a ++ b) ++ c) ++ d) ++ e ≡ a ++ (b ++ (c ++ (d ++ e)))
 regroup a b c d e = simp append-assoc
@@ -37,7 +37,8 @@ unfolding opening ascii
 opening-short true = omega arith
 opening-short false = omega arith
 
-unmade-short : (b : Bool) (n p : ℕ) → n < 256 → p < 18446744073709551616 → length (unmadeText b n p) ≤ 65536
+unmade-short : (b : Bool) (n p : ℕ) → n < 256 → p < 18446744073709551616 → length (unmadeText b n p) ≤ maxBytes
+unfolding maxBytes
 unmade-short b n p h k =
     rw (← unmade-text b n p)
     (simp length-append
@@ -55,8 +56,8 @@ prints-unmade n p h k one two three four five =
 
 -- ---- steps and nodes
 
-counts-short : (k n : ℕ) → k < 65536 → n < 65536 → length (countsText k n) ≤ 64
-unfolding countsText ascii
+counts-short : (k n : ℕ) → k < 65536 → n < 65536 → length (countsText k n) ≤ linesBytes
+unfolding linesBytes countsText ascii
 counts-short k n h l =
     simp length-append (omega (arith, digits-within 4 k (omega arith), digits-within 4 n (omega arith)))
 

@@ -1,6 +1,6 @@
--- Inputs of any length are answered by their first 65,536 bytes: a right head's script ends before them, and what follows it is
+-- Inputs of any length are answered by their first `maxBytes` bytes: a right head's script ends before them, and what follows it is
 -- then too much for settings; a wrong head is told alone. Assumes nothing.
-use Prim.Native.Nat.{ℕ, _+_, _-_, _/_, _≤_, _<_}
+use Prim.Native.Nat.{ℕ, _+_, _/_, _≤_, _<_}
 use mathlib.Core.Path.{_≡_, refl, sym, ap, _∙_}
 use mathlib.Core.Bool.{Bool, true, false, _&&_, true≢false}
 use mathlib.Core.List.{List}
@@ -10,6 +10,7 @@ use lib.ListN.{length, take, length-drop}
 use lib.Seq.{take-all, take-take, getD-take, length-take-le}
 use lib.Dec.{leb, ltb}
 use borrow.Author.Tests.{le-leb}
+use Rattle.lambdamix.specs.Limits.{maxInputs}
 use Rattle.lambdamix.specs.Checker.{Refusal, annotationRefusal}
 use Rattle.lambdamix.specs.Structure.{orElse, refusedUnless}
 use Rattle.lambdamix.specs.Specializing.{unmade, unlessRefused}
@@ -18,7 +19,7 @@ use Rattle.script.specs.Bytes.{byteAt, word16}
 use Rattle.script.specs.File.{fileLength, nodeOffset, headTypes, headInputs, headNodes, scriptIn}
 use Rattle.script.specs.Refusals.{marked, headMarked, countsRight, fileRefusal}
 use Rattle.file.proofs.ContentLaws.{in-limits}
-use Rattle.respond.specs.Response.{headRight, scriptLengthBy, scriptLength, scriptPart, settingsPart, inputReply, replyTo, unmadeText, replyText, response}
+use Rattle.respond.specs.Response.{programSettings, maxBytes, headRight, scriptLengthBy, scriptLength, scriptPart, settingsPart, inputReply, replyTo, unmadeText, replyText, response}
 use Rattle.respond.proofs.Files.{few-inputs}
 use Rattle.respond.proofs.GivenSettings.{many-settings}
 
@@ -31,7 +32,7 @@ module _ (bs : List ℕ) where
   refused-response f e = rw e
 
   twelve-response :
-      fileRefusal (scriptPart bs) ≡ none → 17 ≤ length (settingsPart bs) / 6 →
+      fileRefusal (scriptPart bs) ≡ none → programSettings ≤ length (settingsPart bs) / 6 →
       response bs ≡ replyText (scriptIn (scriptPart bs)) (unlessRefused (annotationRefusal (scriptIn (scriptPart bs))) (unmade 12 0 0))
   unfolding response replyTo inputReply
   twelve-response e h =
@@ -70,16 +71,16 @@ right-counts bs e =
     and-both (headMarked bs 0) (countsRight (headTypes bs) (headInputs bs) (headNodes bs))
     (and-both (leb 8 (length bs)) (headMarked bs 0 && countsRight (headTypes bs) (headInputs bs) (headNodes bs)) e .1) .1
 
-module _ (bs : List ℕ) (long : 65536 ≤ length bs) where
+module _ (bs : List ℕ) (long : maxBytes ≤ length bs) where
   abbrev front : List ℕ
-  front = take 65536 bs
+  front = take maxBytes bs
 
-  front-length : length front ≡ 65536
-  front-length = length-take-le 65536 bs long
+  front-length : length front ≡ maxBytes
+  front-length = length-take-le maxBytes bs long
 
   word-same : (o : ℕ) → o < 8 → word16 front o ≡ word16 bs o
-  unfolding word16 byteAt
-  word-same o h = rw (getD-take 65536 bs o 0 (omega arith), getD-take 65536 bs (o + 1) 0 (omega arith))
+  unfolding maxBytes word16 byteAt
+  word-same o h = rw (getD-take maxBytes bs o 0 (omega arith), getD-take maxBytes bs (o + 1) 0 (omega arith))
 
   types-same : headTypes front ≡ headTypes bs
   unfolding headTypes
@@ -94,11 +95,11 @@ module _ (bs : List ℕ) (long : 65536 ≤ length bs) where
   nodes-same = word-same 6 (omega arith)
 
   mark-same : headMarked front 0 ≡ headMarked bs 0
-  unfolding marked byteAt
-  mark-same = rw (getD-take 65536 bs 0 0 (omega arith), getD-take 65536 bs 1 0 (omega arith))
+  unfolding maxBytes marked byteAt
+  mark-same = rw (getD-take maxBytes bs 0 0 (omega arith), getD-take maxBytes bs 1 0 (omega arith))
 
   right-same : headRight front ≡ headRight bs
-  unfolding headRight
+  unfolding maxBytes headRight
   right-same =
       rw (le-leb 8 (length front) (omega (arith, front-length)), le-leb 8 (length bs) (omega arith), mark-same, types-same, inputs-same, nodes-same)
 
@@ -123,15 +124,15 @@ module _ (bs : List ℕ) (long : 65536 ≤ length bs) where
     length-front = rw (right-same, right, types-same, inputs-same, nodes-same)
 
     script-same : scriptPart front ≡ scriptPart bs
-    unfolding scriptPart
-    script-same = rw (length-front, length-bs) (take-take size 65536 bs (omega (arith, size-small)))
+    unfolding maxBytes scriptPart
+    script-same = rw (length-front, length-bs) (take-take size maxBytes bs (omega (arith, size-small)))
 
-    many-bs : 17 ≤ length (settingsPart bs) / 6
-    unfolding settingsPart
+    many-bs : programSettings ≤ length (settingsPart bs) / 6
+    unfolding maxBytes programSettings maxInputs settingsPart
     many-bs = rw (length-bs, length-drop size bs) (omega (arith, size-small))
 
-    many-front : 17 ≤ length (settingsPart front) / 6
-    unfolding settingsPart
+    many-front : programSettings ≤ length (settingsPart front) / 6
+    unfolding maxBytes programSettings maxInputs settingsPart
     many-front = rw (length-front, length-drop size front, front-length) (omega (arith, size-small))
 
     right-response : response front ≡ response bs
@@ -146,13 +147,14 @@ module _ (bs : List ℕ) (long : 65536 ≤ length bs) where
   -- ---- a wrong head
 
   wrong-response : headRight bs ≡ false → response front ≡ response bs
+  unfolding maxBytes
   wrong-response wrong =
       let f : Refusal = headFault (headMarked bs 0) in
       refused-response front f
       (wrong-told front (omega (arith, front-length)) (right-same ∙ wrong) ∙ ap (λ (b : Bool). some (headFault b)) mark-same)
       ∙ sym (refused-response bs f (wrong-told bs (omega arith) wrong))
 
-  -- The first 65,536 bytes decide.
+  -- The first bytes decide.
   pub longer-input : response front ≡ response bs
   longer-input = go (headRight bs) refl
     where

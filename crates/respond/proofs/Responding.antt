@@ -27,8 +27,8 @@ use Rattle.script.specs.Replies.{Reads}
 use Rattle.printer.specs.Places.{most}
 use Rattle.specializer.specs.Making.{Stores, suffices, storesSuffice, storesAfter}
 use Rattle.respond.specs.declared.Response.the-variants.{Printed, TooShort}
-use Rattle.respond.specs.Response.{programFuel, scriptLength, scriptPart, settingsPart, inputReply, replyTo, unmadeText, replyText, response}
-use Rattle.respond.specs.Answers.{textRoom, roomy, responded, respondedOutput, runRefusal, respondedStores, Responds}
+use Rattle.respond.specs.Response.{programFuel, programSettings, maxBytes, scriptLength, scriptPart, settingsPart, inputReply, replyTo, unmadeText, replyText, response}
+use Rattle.respond.specs.Answers.{restRoom, roomy, responded, respondedOutput, runRefusal, respondedStores, Responds}
 use Rattle.respond.specs.Stages.{Suffices, Prints, Held, AnswersScript, Answers}
 use Rattle.respond.proofs.Splitting.{front-part, back-part}
 use Rattle.respond.proofs.Holding.{read-refused, held}
@@ -85,35 +85,44 @@ module _ (input : List ℕ) {x y : Tables} {end : ℕ} {reply : Reading}
 
 -- ---- the call
 
+room-parts :
+    (zs heap codes file out : ℕ) → restRoom zs heap codes file out ≡ true →
+    (programSettings ≤ zs) × (suffices programFuel heap codes ≡ true) × (maxBytes ≤ file) × (maxBytes ≤ out)
+unfolding restRoom
+room-parts zs heap codes file out e =
+    let texts : Bool = leb maxBytes file && leb maxBytes out in
+    let (first, rest) = and-both (leb programSettings zs) (suffices programFuel heap codes && texts) e in
+    let (stores, both) = and-both (suffices programFuel heap codes) texts rest in
+    let (wide, long) = and-both (leb maxBytes file) (leb maxBytes out) both in
+    (leb-true programSettings zs first, stores, leb-true maxBytes file wide, leb-true maxBytes out long)
+
 pub settings-room :
     {ps rs is ks xs ys zs vs settings heap codes file out : ℕ} {r : Bool} →
-    Suffices ps rs is ks xs ys zs vs settings heap codes file out r → r ≡ true → 17 ≤ settings
+    Suffices ps rs is ks xs ys zs vs settings heap codes file out r → r ≡ true → programSettings ≤ settings
 settings-room {ps} {rs} {is} {ks} {xs} {ys} {zs} {vs} {settings} {heap} {codes} {file} {out} s t =
-    let rest : Bool = (leb 4016 heap && leb 8016 codes) && (leb 65536 file && leb 65536 out) in
-    leb-true 17 settings
-    (and-both (leb 17 settings) rest (and-both (enough 64 16 4096 ps rs is ks xs ys zs vs) (leb 17 settings && rest) (sym (s .told) ∙ t) .1) .0)
+    room-parts settings heap codes file out
+    (and-both (enough maxTypes maxInputs maxNodes ps rs is ks xs ys zs vs) (restRoom settings heap codes file out) (sym (s .told) ∙ t) .1) .0
 
 module _ (x : Tables) (zs : List ℤ) (before : Stores) (file out : List ℕ) {b : Bool}
-    (told : b ≡ (enough 64 16 4096 (length (x .parameters)) (length (x .results)) (length (x .inputs)) (length (x .kinds)) (length (x .a)) (length (x .b)) (length (x .c)) (length (x .values))
-    && (leb 17 (length zs) && ((leb 4016 (length (before .heap)) && leb 8016 (length (before .codes))) && (leb 65536 (length file) && leb 65536 (length out)))))) where
+    (s : Suffices (length (x .parameters)) (length (x .results)) (length (x .inputs)) (length (x .kinds)) (length (x .a)) (length (x .b)) (length (x .c)) (length (x .values))
+    (length zs) (length (before .heap)) (length (before .codes)) (length file) (length out) b) where
   room-is : roomy x zs before file out ≡ b
-  unfolding roomy textRoom longEnough enough storesSuffice suffices programFuel maxTypes maxInputs maxNodes
-  room-is = sym told
+  unfolding roomy longEnough enough
+  room-is = sym (s .told)
 
   pub call-answered :
       {n : ℕ} {input made printed : List ℕ} {y : Tables} {ws : List ℤ} {after : Stores} → b ≡ true → length out < most → Answers input x before after file out printed n →
       Responds input x y zs ws before after file made out printed (Printed n)
-  unfolding roomy textRoom maxTypes maxInputs maxNodes responded respondedOutput respondedStores
+  unfolding roomy storesSuffice responded respondedOutput respondedStores
   call-answered {n} {input} {printed = printed} t small a =
       let room : roomy x zs before file out ≡ true = room-is ∙ t in
-      let text : Bool = leb 65536 (length file) && leb 65536 (length out) in
-      let (tables, rest) = and-both (longEnough 64 16 4096 x) (leb 17 (length zs) && (storesSuffice programFuel before && text)) room in
-      let (stores, texts) = and-both (storesSuffice programFuel before) text (and-both (leb 17 (length zs)) (storesSuffice programFuel before && text) rest .1) in
-      let (wide, long) = and-both (leb 65536 (length file)) (leb 65536 (length out)) texts in
-      let r = a .answers tables stores (leb-true 65536 (length file) wide) (leb-true 65536 (length out) long) in
-      let fits : length (response input) ≤ 65536 = r .prints .short in
+      let (tables, rest) =
+      and-both (longEnough maxTypes maxInputs maxNodes x) (restRoom (length zs) (length (before .heap)) (length (before .codes)) (length file) (length out)) room in
+      let (first, enough, wide, long) = room-parts _ _ _ _ _ rest in
+      let r = a .answers tables enough wide long in
+      let fits : length (response input) ≤ maxBytes = r .prints .short in
       let count : n ≡ length (response input) = omega (arith, r .prints .placed .counted) in
-      let written : printed ≡ over (response input) out = r .prints .placed .stands (omega arith) (omega (arith, leb-true 65536 (length out) long)) in
+      let written : printed ≡ over (response input) out = r .prints .placed .stands (omega arith) (omega arith) in
       record {
         reply = rw room (ap Printed count);
         output = rw room written;

@@ -20,7 +20,7 @@ use Rattle.file.proofs.RecordLaws.{numbered-length}
 use Rattle.specializer.specs.Making.{Stores}
 use Rattle.specializer.specs.declared.Reply.{Reply}
 use Rattle.specializer.specs.Entry.{Makes}
-use Rattle.respond.specs.Response.{programFuel, headRight, scriptLengthBy, scriptLength, wholeSettings, settingMarked, settingAt}
+use Rattle.respond.specs.Response.{programFuel, programSettings, headRight, scriptLengthBy, scriptLength, wholeSettings, settingMarked, settingAt}
 use Rattle.respond.specs.Given.{givenBy, givenCount, givenSettings}
 
 -- a list without elements holds bytes: zeros
@@ -48,17 +48,17 @@ module _ (bs : List ℕ) where
     head-counts p q = rw (← et, ← ei, ← en) (sym p ∙ q)
 
   pub given-by :
-      {f m a : Bool} → ltb (length bs / 6) 17 ≡ f → eqb (length bs % 6) 0 ≡ m →
+      {f m a : Bool} → ltb (length bs / 6) programSettings ≡ f → eqb (length bs % 6) 0 ≡ m →
       isNone (firstFailing (settingMarked bs) 0 (length bs / 6)) ≡ a → givenBy (f && (m && a)) (length bs / 6) ≡ givenCount bs
   unfolding givenCount wholeSettings
   given-by p q r = rw (p, q, r)
 
-  pub given-most : givenCount bs ≤ 17
+  pub given-most : givenCount bs ≤ programSettings
   unfolding givenCount givenBy
-  given-most = go (ltb (length bs / 6) 17) (wholeSettings bs) refl
+  given-most = go (ltb (length bs / 6) programSettings) (wholeSettings bs) refl
     where
-      go : (f w : Bool) → ltb (length bs / 6) 17 ≡ f → givenBy (f && w) (length bs / 6) ≤ 17
-      go true true e = omega (arith, ltb-true (length bs / 6) 17 e)
+      go : (f w : Bool) → ltb (length bs / 6) programSettings ≡ f → givenBy (f && w) (length bs / 6) ≤ programSettings
+      go true true e = omega (arith, ltb-true (length bs / 6) programSettings e)
       go true false e = omega arith
       go false w e = omega arith
 
@@ -78,9 +78,8 @@ pub makes-given :
     {n : Counts} {x : Tables} {file made : List ℕ} {ws : List ℤ} {count : ℕ} {before after : Stores} {r : Reply} →
     (zs : List ℤ) (rest : List ℕ) →
     count ≡ givenCount rest → ws ≡ over (numbered (settingAt rest) 0 count) zs →
-    Makes false n x (take (count - 0) (drop 0 ws)) 4000 before after file made r →
+    Makes false n x (take (count - 0) (drop 0 ws)) programFuel before after file made r →
     Makes false n x (givenSettings rest) programFuel before after file made r
-unfolding programFuel
 makes-given zs rest e d m = rw (decoded zs rest e d) at m
 
 -- ---- parts of a slice

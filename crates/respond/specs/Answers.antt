@@ -16,19 +16,20 @@ use Rattle.lambdamix.specs.Specializing.{callRefusal}
 use Rattle.script.specs.File.{scriptIn}
 use Rattle.script.specs.Refusals.{fileRefusal}
 use Rattle.script.specs.Tables.{Tables, longEnough, over}
-use Rattle.specializer.specs.Making.{Stores, storesSuffice, storesAfter}
+use Rattle.specializer.specs.Making.{Stores, suffices, storesAfter}
 use Rattle.respond.specs.declared.Response.{Response}
 use Rattle.respond.specs.declared.Response.the-variants.{Printed, TooShort}
-use Rattle.respond.specs.Response.{programFuel, scriptPart, settingsPart, wholeSettings, settings, response}
+use Rattle.respond.specs.Response.{programFuel, programSettings, maxBytes, scriptPart, settingsPart, wholeSettings, settings, response}
 
--- the file of made code, and what is printed, fit 65,536 bytes
-unfoldable pub textRoom : List ℕ → List ℕ → Bool
-textRoom file out = leb 65536 (length file) && leb 65536 (length out)
+-- settings, stores for the fuel, the file of made code and what is printed, by their lengths
+unfoldable pub restRoom : ℕ → ℕ → ℕ → ℕ → ℕ → Bool
+restRoom zs heap codes file out =
+    leb programSettings zs && (suffices programFuel heap codes && (leb maxBytes file && leb maxBytes out))
 
--- what is lent suffices for every input: tables for the limits, one setting more than there are inputs, stores for the fuel
+-- what is lent suffices for every input
 unfoldable pub roomy : Tables → List ℤ → Stores → List ℕ → List ℕ → Bool
 roomy x zs m file out =
-    longEnough maxTypes maxInputs maxNodes x && (leb 17 (length zs) && (storesSuffice programFuel m && textRoom file out))
+    longEnough maxTypes maxInputs maxNodes x && restRoom (length zs) (length (m .heap)) (length (m .codes)) (length file) (length out)
 
 -- how many bytes were written, or that something lent is too short
 unfoldable pub responded : Bool → List ℕ → Response

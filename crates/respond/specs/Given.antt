@@ -7,14 +7,14 @@ use lib.IntN.{ℤ}
 use lib.ListN.{length}
 use lib.Dec.{ltb}
 use Rattle.script.specs.File.{numbered}
-use Rattle.respond.specs.Response.{wholeSettings, settingAt}
+use Rattle.respond.specs.Response.{programSettings, wholeSettings, settingAt}
 
 unfoldable pub givenBy : Bool → ℕ → ℕ
 givenBy true k = k
-givenBy false k = 17
+givenBy false k = programSettings
 
 unfoldable pub givenCount : List ℕ → ℕ
-givenCount bs = givenBy (ltb (length bs / 6) 17 && wholeSettings bs) (length bs / 6)
+givenCount bs = givenBy (ltb (length bs / 6) programSettings && wholeSettings bs) (length bs / 6)
 
 unfoldable pub givenSettings : List ℕ → List ℤ
 givenSettings bs = numbered (settingAt bs) 0 (givenCount bs)

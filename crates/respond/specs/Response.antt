@@ -8,6 +8,7 @@ use mathlib.Core.Option.{Option, none, some}
 use lib.IntN.{ℤ}
 use lib.ListN.{length, take, drop}
 use lib.Dec.{leb, ltb, eqb}
+use Rattle.lambdamix.specs.Limits.{maxInputs}
 use Rattle.lambdamix.specs.Script.{Script}
 use Rattle.lambdamix.specs.Checker.{Refusal, annotationRefusal}
 use Rattle.lambdamix.specs.Structure.{firstFailing}
@@ -22,6 +23,14 @@ use Rattle.script.specs.Refusals.{countsRight, marked, headMarked, isNone, file
 -- "its fuel is 4,000"
 unfoldable pub programFuel : ℕ
 programFuel = 4000
+
+-- room for one setting more than a script has inputs
+unfoldable pub programSettings : ℕ
+programSettings = maxInputs + 1
+
+-- the most bytes of a made file, and of what is printed
+unfoldable pub maxBytes : ℕ
+maxBytes = 65536
 
 unfoldable pub headRight : List ℕ → Bool
 headRight bs = leb 8 (length bs) && (headMarked bs 0 && countsRight (headTypes bs) (headInputs bs) (headNodes bs))

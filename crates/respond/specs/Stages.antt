@@ -1,11 +1,11 @@
 -- What the stages of `respond` promise: lines and listings printed, a script answered. Assumes nothing.
-use Prim.Native.Nat.{ℕ, _+_, _≤_}
+use Prim.Native.Nat.{ℕ, _+_, _*_, _≤_}
 use mathlib.Core.Path.{_≡_}
 use mathlib.Core.Bool.{Bool, true, false, _&&_}
 use mathlib.Core.List.{List, _++_}
 use mathlib.Core.Option.{none}
 use lib.ListN.{length, take}
-use lib.Dec.{leb}
+use Rattle.lambdamix.specs.Limits.{maxTypes, maxInputs, maxNodes}
 use Rattle.lambdamix.specs.Script.{Script}
 use Rattle.lambdamix.specs.Text.{ascii, digits}
 use Rattle.lambdamix.specs.Listing.{listing}
@@ -19,17 +19,16 @@ use Rattle.script.specs.Tables.{Tables, tablesScript, tablesRefusal, longEnough
 use Rattle.printer.specs.Places.{Placed}
 use Rattle.printer.specs.Answers.{tablesText}
 use Rattle.specializer.specs.Making.{Stores, storesSuffice, storesAfter}
-use Rattle.respond.specs.Response.{programFuel, wholeSettings, settingsReply, replyText, response}
-use Rattle.respond.specs.Answers.{laterRefusal, runRefusal}
+use Rattle.respond.specs.Response.{programFuel, maxBytes, wholeSettings, settingsReply, replyText, response}
+use Rattle.respond.specs.Answers.{restRoom, laterRefusal, runRefusal}
 
 -- whether what is lent suffices, by its lengths
 pub record Suffices (parameters results inputs kinds a b c values settings heap codes file out : ℕ) (r : Bool) : Type 0 where
-  pub told : r ≡ (enough 64 16 4096 parameters results inputs kinds a b c values
-      && (leb 17 settings && ((leb 4016 heap && leb 8016 codes) && (leb 65536 file && leb 65536 out))))
+  pub told : r ≡ (enough maxTypes maxInputs maxNodes parameters results inputs kinds a b c values && restRoom settings heap codes file out)
 
--- a text that fits 65,536 bytes is printed
+-- a text that fits is printed
 pub record Prints (text before after : List ℕ) (r : ℕ) : Type 0 where
-  pub short : length text ≤ 65536
+  pub short : length text ≤ maxBytes
   pub placed : Placed text 0 before after r
 
 -- the words before number and place
@@ -37,12 +36,19 @@ unfoldable pub opening : Bool → List ℕ
 opening true = ascii "refused "
 opening false = ascii "accepted\nstopped "
 
+-- the most bytes of the lines before a listing, and of the listing of a file that passes 1 to 8
+unfoldable pub linesBytes : ℕ
+linesBytes = 64
+
+unfoldable pub listingBytes : ℕ
+listingBytes = 13 * maxNodes + 1
+
 -- the three lines before the listing
 unfoldable pub countsText : ℕ → ℕ → List ℕ
 countsText k n = ascii "accepted\nsteps " ++ digits k ++ ascii "\nnodes " ++ digits n ++ ascii "\n"
 
 pub record CountsPlaced (k n : ℕ) (before after : List ℕ) (r : ℕ) : Type 0 where
-  pub short : length (countsText k n) ≤ 64
+  pub short : length (countsText k n) ≤ linesBytes
   pub placed : Placed (countsText k n) 0 before after r
 
 -- counts and tables that pass 1 to 8 are listed from a place on, where there is room
@@ -53,18 +59,18 @@ pub record ListsAt (n : Counts) (x : Tables) (at : ℕ) (before after : List ℕ
 
 -- a listing stands at a place
 pub record ListedAt (s : Script) (at : ℕ) (before after : List ℕ) (r : ℕ) : Type 0 where
-  pub short : length (listing s) ≤ 53249
+  pub short : length (listing s) ≤ listingBytes
   pub placed : Placed (listing s) at before after r
 
 -- a file that passes 1 to 8 is listed from a place on, by way of tables that are long enough for every file
 pub record ListsFile (bs : List ℕ) (x : Tables) (at : ℕ) (before after : List ℕ) (r : ℕ) : Type 0 where
   pub lists :
-      fileRefusal bs ≡ none → longEnough 64 16 4096 x ≡ true → at + 53249 ≤ length before → ListedAt (scriptIn bs) at before after r
+      fileRefusal bs ≡ none → longEnough maxTypes maxInputs maxNodes x ≡ true → at + listingBytes ≤ length before → ListedAt (scriptIn bs) at before after r
 
 -- finished code is printed from the file that it was written as
 pub record PrintsMade (inputs k n : ℕ) (file : List ℕ) (x : Tables) (before after : List ℕ) (r : ℕ) : Type 0 where
   pub prints :
-      fileRefusal (take (fileLength 0 inputs n) file) ≡ none → longEnough 64 16 4096 x ≡ true → 65536 ≤ length before →
+      fileRefusal (take (fileLength 0 inputs n) file) ≡ none → longEnough maxTypes maxInputs maxNodes x ≡ true → maxBytes ≤ length before →
       Prints (countsText k n ++ listing (scriptIn (take (fileLength 0 inputs n) file))) before after r
 
 -- counts and tables hold a file that passes 1 to 8, and are long enough for every file
@@ -73,7 +79,7 @@ pub record Held (bs : List ℕ) (n : Counts) (x : Tables) : Type 0 where
   pub read : fileRefusal bs ≡ none
   pub counts : n ≡ headCounts bs
   pub script : tablesScript (n .types) (n .inputs) (n .nodes) x ≡ scriptIn bs
-  pub room : longEnough 64 16 4096 x ≡ true
+  pub room : longEnough maxTypes maxInputs maxNodes x ≡ true
 
 -- what a call prints and leaves in the stores
 pub record Answered (text : List ℕ) (left after : Stores) (out printed : List ℕ) (r : ℕ) : Type 0 where
@@ -83,13 +89,13 @@ pub record Answered (text : List ℕ) (left after : Stores) (out printed : List 
 -- a script that is held is answered, with what follows it
 pub record AnswersScript (n : Counts) (rest : List ℕ) (x : Tables) (before after : Stores) (file out printed : List ℕ) (r : ℕ) : Type 0 where
   pub answers :
-      (bs : List ℕ) → Held bs n x → AllBytes rest → storesSuffice programFuel before ≡ true → 65536 ≤ length file →
-      65536 ≤ length out →
+      (bs : List ℕ) → Held bs n x → AllBytes rest → storesSuffice programFuel before ≡ true → maxBytes ≤ length file →
+      maxBytes ≤ length out →
       Answered (replyText (scriptIn bs) (settingsReply (wholeSettings rest) (scriptIn bs) rest))
       (storesAfter (laterRefusal (scriptIn bs) rest) before) after out printed r
 
 -- an input is answered
 pub record Answers (input : List ℕ) (x : Tables) (before after : Stores) (file out printed : List ℕ) (r : ℕ) : Type 0 where
   pub answers :
-      longEnough 64 16 4096 x ≡ true → storesSuffice programFuel before ≡ true → 65536 ≤ length file → 65536 ≤ length out →
+      longEnough maxTypes maxInputs maxNodes x ≡ true → storesSuffice programFuel before ≡ true → maxBytes ≤ length file → maxBytes ≤ length out →
       Answered (response input) (storesAfter (runRefusal input) before) after out printed r

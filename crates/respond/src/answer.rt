@@ -11,6 +11,7 @@ ghost use Prim.Native.Nat.{_≤_};
 ghost use lib.ListN.{length};
 ghost use Rattle.script.specs.Columns.{tablesOf};
 ghost use Rattle.specializer.specs.Entry.{stores};
+ghost use Rattle.respond.specs.Response.{programSettings};
 ghost use Rattle.respond.specs.Answers.{Responds};
 ghost use Rattle.respond.specs.Stages.{Answers};
 
@@ -31,7 +32,7 @@ fn answer(
     file: &mut [u8],
     out: &mut [u8],
 ) -> usize
-    requires { ⌜ 17 ≤ length (now settings) ⌝ }
+    requires { ⌜ programSettings ≤ length (now settings) ⌝ }
     ensures { λ r. ⌜ Answers (now (input .entry)) (tablesOf (now (parameters .entry)) (now (results .entry)) (now (inputs .entry)) (now (kinds .entry)) (now (a .entry)) (now (b .entry)) (now (c .entry)) (now (values .entry))) (stores (now (heap .entry)) (now (codes .entry))) (stores (now (heap .exit)) (now (codes .exit))) (now (file .entry)) (now (out .entry)) (now (out .exit)) r ⌝ }
 {
     let first = 0;

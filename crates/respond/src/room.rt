@@ -9,13 +9,12 @@ use script::limits::MAX_INPUTS;
 use script::limits::MAX_NODES;
 use script::limits::MAX_TYPES;
 ghost use mathlib.Core.Path.{_≡_};
-ghost use mathlib.Core.Bool.{_&&_};
-ghost use lib.Dec.{leb};
+ghost use Rattle.respond.specs.Answers.{restRoom};
 ghost use Rattle.respond.specs.Stages.{Suffices};
 
 // Settings, stores, the made file and the output, by their lengths.
 fn rest_suffices(settings: usize, heap: usize, codes: usize, file: usize, out: usize) -> bool
-    ensures { λ r. ⌜ r ≡ (leb 17 settings && ((leb 4016 heap && leb 8016 codes) && (leb 65536 file && leb 65536 out))) ⌝ }
+    ensures { λ r. ⌜ r ≡ restRoom settings heap codes file out ⌝ }
 {
     if settings < SETTINGS {
         return false;

@@ -10,12 +10,12 @@ ghost use Rattle.lambdamix.specs.Structure.{firstFailing};
 ghost use Rattle.script.specs.File.{numbered};
 ghost use Rattle.script.specs.Refusals.{isNone};
 ghost use Rattle.script.specs.Tables.{over};
-ghost use Rattle.respond.specs.Response.{settingMarked, settingAt};
+ghost use Rattle.respond.specs.Response.{programSettings, settingMarked, settingAt};
 ghost use Rattle.respond.specs.Given.{givenCount};
 
 // Whether each of some records has its mark.
 fn all_marked(s: &[u8], count: usize) -> bool
-    requires { ⌜ count < 17 ⌝ }
+    requires { ⌜ count < programSettings ⌝ }
     ensures { λ r. ⌜ r ≡ isNone (firstFailing (settingMarked (now (s .entry))) 0 count) ⌝ }
 {
     let mut j = 0;
@@ -29,7 +29,7 @@ fn all_marked(s: &[u8], count: usize) -> bool
     true
 }
 
-// How many settings the maker is given; for what is not whole records, or more than 16, one more than any script wants.
+// How many settings the maker is given; for what is not whole records, or more than MAX_INPUTS, one more than any script wants.
 pub(crate) fn given_count(s: &[u8]) -> usize
     ensures { λ r. ⌜ r ≡ givenCount (now (s .entry)) ⌝ }
 {
@@ -49,7 +49,7 @@ pub(crate) fn given_count(s: &[u8]) -> usize
 
 // The values of the first records into the lent settings.
 pub(crate) fn decode(s: &[u8], count: usize, settings: &mut [i32])
-    requires { ⌜ count ≤ 17 ⌝ }
+    requires { ⌜ count ≤ programSettings ⌝ }
     requires { ⌜ count ≤ length (now settings) ⌝ }
     ensures { λ r. ⌜ now (settings .exit) ≡ over (numbered (settingAt (now (s .entry))) 0 count) (now (settings .entry)) ⌝ }
 {

@@ -19,7 +19,7 @@ ghost use Rattle.script.specs.File.{fileLength};
 ghost use lib.ListN.{length};
 ghost use Rattle.script.specs.Columns.{tablesOf};
 ghost use Rattle.specializer.specs.Entry.{stores, Makes};
-ghost use Rattle.respond.specs.Response.{programFuel};
+ghost use Rattle.respond.specs.Response.{programFuel, programSettings};
 ghost use Rattle.respond.specs.Given.{givenSettings};
 ghost use Rattle.respond.specs.Stages.{ListsFile, PrintsMade, AnswersScript};
 
@@ -40,7 +40,7 @@ fn make_given(
     codes: &mut [u64],
     file: &mut [u8],
 ) -> Reply
-    requires { ⌜ 17 ≤ length (now settings) ⌝ }
+    requires { ⌜ programSettings ≤ length (now settings) ⌝ }
     ensures { λ r. ⌜ Makes false n (tablesOf (now (parameters .entry)) (now (results .entry)) (now (inputs .entry)) (now (kinds .entry)) (now (a .entry)) (now (b .entry)) (now (c .entry)) (now (values .entry))) (givenSettings (now (rest .entry))) programFuel (stores (now (heap .entry)) (now (codes .entry))) (stores (now (heap .exit)) (now (codes .exit))) (now (file .entry)) (now (file .exit)) r ⌝ }
 {
     let first = 0;
@@ -160,7 +160,7 @@ pub(crate) fn answer_script(
     file: &mut [u8],
     out: &mut [u8],
 ) -> usize
-    requires { ⌜ 17 ≤ length (now settings) ⌝ }
+    requires { ⌜ programSettings ≤ length (now settings) ⌝ }
     ensures { λ r. ⌜ AnswersScript n (now (rest .entry)) (tablesOf (now (parameters .entry)) (now (results .entry)) (now (inputs .entry)) (now (kinds .entry)) (now (a .entry)) (now (b .entry)) (now (c .entry)) (now (values .entry))) (stores (now (heap .entry)) (now (codes .entry))) (stores (now (heap .exit)) (now (codes .exit))) (now (file .entry)) (now (out .entry)) (now (out .exit)) r ⌝ }
 {
     let reply = make_given(

@@ -4,7 +4,8 @@ use mathlib.Core.Path.{sym, ap, _∙_}
 use native.Mathlib.Omega.{arith}
 use Rattle.script.specs.Refusals.{isNone}
 use Rattle.file.proofs.Searching.{Searching, search-begins, search-goes-on, search-finds, search-ends}
-use Rattle.respond.specs.Response.{settingMarked}
+use Rattle.respond.specs.Response.{programSettings, settingMarked}
+use Rattle.lambdamix.specs.Limits.{maxInputs}
 use Rattle.respond.proofs.settings.all_marked.Statement.{statement}
 use Rattle.respond.proofs.settings.all_marked.Tie as tie
 
@@ -18,6 +19,7 @@ loop-holds : tie.Need-loop-holds Inv-loop μ-loop
 loop-holds c = search-begins _ _
 
 mul-is-marked : tie.Need-mul-is-marked Inv-loop μ-loop
+unfolding programSettings maxInputs
 mul-is-marked c = omega arith
 
 is-marked-requires : tie.Need-is-marked-requires Inv-loop μ-loop

@@ -5,7 +5,8 @@ use native.Mathlib.Omega.{arith}
 use mir.Syntax.{w32}
 use mir.Facts.{toZ-ofZ}
 use Rattle.file.proofs.Filling.{Filling, fill-begins, fill-goes-on, fill-ends, fill-length}
-use Rattle.respond.specs.Response.{settingAt}
+use Rattle.respond.specs.Response.{programSettings, settingAt}
+use Rattle.lambdamix.specs.Limits.{maxInputs}
 use Rattle.respond.proofs.settings.decode.Statement.{statement}
 use Rattle.respond.proofs.settings.decode.Tie as tie
 
@@ -19,9 +20,11 @@ loop-holds : tie.Need-loop-holds Inv-loop μ-loop
 loop-holds c = fill-begins _ _ _ (omega arith)
 
 mul-value32 : tie.Need-mul-value32 Inv-loop μ-loop
+unfolding programSettings maxInputs
 mul-value32 c = omega arith
 
 add-value32 : tie.Need-add-value32 Inv-loop μ-loop
+unfolding programSettings maxInputs
 add-value32 c = omega arith
 
 value32-requires : tie.Need-value32-requires Inv-loop μ-loop

@@ -2,26 +2,32 @@
 use mathlib.Core.Path.{refl, sym, _∙_}
 use borrow.Author.Tests.{lt-ltb, le-ltb, eq-eqb, ne-eqb}
 use Rattle.respond.specs.Given.{givenBy}
+use Rattle.lambdamix.specs.Limits.{maxInputs}
+use Rattle.respond.specs.Response.{programSettings}
 use Rattle.respond.proofs.Splitting.{given-by}
 use borrow.Author.Needs.{needs}
 use Rattle.respond.proofs.settings.given_count.Statement.{statement}
 use Rattle.respond.proofs.settings.given_count.Tie as tie
 
+all-marked-requires : tie.Need-all-marked-requires
+unfolding programSettings maxInputs
+all-marked-requires c κs = search needs
+
 returns : tie.Need-returns
-unfolding givenBy
+unfolding givenBy programSettings maxInputs
 returns c = given-by _ (lt-ltb _ _ (c .before .before .before .if1 .taken)) (eq-eqb _ _ (c .before .before .if2 .taken)) (sym (c .before .all-marked .ensures) ∙ c .if3 .taken)
 
 returns-2 : tie.Need-returns-2
-unfolding givenBy
+unfolding givenBy programSettings maxInputs
 returns-2 c = given-by _ (lt-ltb _ _ (c .before .before .before .if1 .taken)) (eq-eqb _ _ (c .before .before .if2 .taken)) (sym (c .before .all-marked .ensures) ∙ c .if3 .left)
 
 returns-3 : tie.Need-returns-3
-unfolding givenBy
+unfolding givenBy programSettings maxInputs
 returns-3 c = given-by _ (lt-ltb _ _ (c .before .if1 .taken)) (ne-eqb _ _ (c .if2 .left)) refl
 
 returns-4 : tie.Need-returns-4
-unfolding givenBy
+unfolding givenBy programSettings maxInputs
 returns-4 c = given-by _ (le-ltb _ _ (c .if1 .left)) refl refl
 
 pub given-count-spec : {M : Type 1} → statement M
-given-count-spec = tie.close (tie.spec (λ c κs. search needs) returns returns-2 returns-3 returns-4)
+given-count-spec = tie.close (tie.spec all-marked-requires returns returns-2 returns-3 returns-4)

@@ -1,5 +1,6 @@
 -- `respond::stage::make_given` meets its contract. Assumes nothing.
 use native.Mathlib.Omega.{arith}
+use Rattle.respond.specs.Response.{programFuel}
 use Rattle.respond.proofs.Splitting.{given-most, makes-given}
 use borrow.Author.Needs.{needs}
 use Rattle.respond.proofs.stage.make_given.Statement.{statement}
@@ -12,6 +13,7 @@ part-make-end : tie.Need-part-make-end
 part-make-end c = omega (arith, c .before .before .before .before .given-count .ensures, given-most (c .before .before .before .before .before .before .before .before .before .before .before .before .before .before .before .before .args .rest .now), c .before .before .decode .kept)
 
 returns : tie.Need-returns
+unfolding programFuel
 returns c = makes-given _ _ (c .before .before .before .before .before .before .before .before .before .before .before .before .before .before .before .given-count .ensures) (c .before .before .before .before .before .before .before .before .before .before .before .before .before .decode .ensures) (c .before .before .before .before .before .before .make .ensures)
 
 pub make-given-spec : {M : Type 1} → statement M
