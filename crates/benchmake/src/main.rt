@@ -13,12 +13,12 @@ use script::limits::MAX_NODES;
 use script::limits::MAX_TYPES;
 ghost use Prim.Native.Nat.{_≤_};
 ghost use lib.ListN.{length};
-ghost use Rattle.respond.specs.Response.{response};
+ghost use Rattle.respond.specs.Response.{maxBytes, response};
 ghost use Rattle.benchmake.specs.Printing.{Writes};
 
 // The answer to an input, on tables and stores of the program's own, which start as zeros.
 fn answer(input: &[u8], out: &mut [u8]) -> usize
-    requires { ⌜ 65536 ≤ length (now out) ⌝ }
+    requires { ⌜ maxBytes ≤ length (now out) ⌝ }
     ensures { λ r. ⌜ Writes (response (now (input .entry))) (now (out .entry)) (now (out .exit)) r ⌝ }
 {
     let mut parameters = [0u16; MAX_TYPES];
@@ -57,7 +57,7 @@ fn answer(input: &[u8], out: &mut [u8]) -> usize
 // Whether another buffer of standard input was full.
 fn more() -> bool {
     let mut space = io::large_buffer();
-    io::read_full(STDIN_FILENO, &mut space) == 65536
+    io::read_full(STDIN_FILENO, &mut space) == MAX_BYTES
 }
 
 // Reads what is left of standard input.
@@ -82,7 +82,7 @@ fn print(out: &[u8], n: usize) {
 fn main() {
     let mut space = io::large_buffer();
     let n = io::read_full(STDIN_FILENO, &mut space);
-    if n == 65536 {
+    if n == MAX_BYTES {
         drain();
     }
     let mut out = [0u8; MAX_BYTES];
