@@ -15,7 +15,7 @@ use Rattle.lambdamix.specs.Limits.{maxInputs}
 use Rattle.lambdamix.specs.Script.{Script}
 use Rattle.lambdamix.specs.Checker.{Refusal, annotationRefusal}
 use Rattle.lambdamix.specs.Structure.{orElse, oneIf, refusedUnless}
-use Rattle.lambdamix.specs.Specializing.{unmade, staticInputs, callRefusal, unlessRefused, answerReply, specialized, make}
+use Rattle.lambdamix.specs.Specializing.{Reply, unmade, staticInputs, callRefusal, unlessRefused, answerReply, specialized, make}
 use Rattle.lambdamix.proofs.Tests.{holds-or-fails}
 use Rattle.lambdamix.proofs.Range.{Fits}
 use Rattle.script.specs.File.{numbered}
@@ -45,32 +45,37 @@ module _ (s : Script) (few : length (s .inputs) ≤ maxInputs) where
   unfolding callRefusal refusedUnless orElse programSettings maxInputs
   too-many zs h = rw (ne-eqb (length zs) (staticInputs (s .inputs)) (λ e. omega (arith, static-few (s .inputs))))
 
+  -- the count that stands for a wrong number of settings
+  wrong-refused : (bs : List ℕ) → callRefusal s (numbered (settingAt bs) 0 programSettings) programFuel ≡ twelve
+  wrong-refused bs =
+      too-many (numbered (settingAt bs) 0 programSettings) (omega (arith, numbered-length (settingAt bs) 0 programSettings))
+
+  many-refused : (bs : List ℕ) → programSettings ≤ length bs / 6 → callRefusal s (settings bs) programFuel ≡ twelve
+  unfolding settings
+  many-refused bs h = too-many (settings bs) (omega (arith, numbered-length (settingAt bs) 0 (length bs / 6)))
+
   -- ---- the refusal of settings that are given
 
   pub given-refusal : (bs : List ℕ) → callRefusal s (givenSettings bs) programFuel ≡ settingsRefusal (wholeSettings bs) s bs
   unfolding givenSettings givenCount givenBy settingsRefusal settings
   given-refusal bs = go (ltb (length bs / 6) programSettings) (wholeSettings bs) refl
     where
-      many : programSettings ≤ length bs / 6 → callRefusal s (settings bs) programFuel ≡ twelve
-      many h = too-many (settings bs) (omega (arith, numbered-length (settingAt bs) 0 (length bs / 6)))
-
-      bad : callRefusal s (numbered (settingAt bs) 0 programSettings) programFuel ≡ twelve
-      bad = too-many (numbered (settingAt bs) 0 programSettings) (omega (arith, numbered-length (settingAt bs) 0 programSettings))
-
       go :
           (f w : Bool) → ltb (length bs / 6) programSettings ≡ f →
           callRefusal s (numbered (settingAt bs) 0 (givenBy (f && w) (length bs / 6))) programFuel ≡ settingsRefusal w s bs
       go true true e = refl
-      go true false e = bad
-      go false true e = bad ∙ sym (many (ltb-false (length bs / 6) programSettings e))
-      go false false e = bad
+      go true false e = wrong-refused bs
+      go false true e = wrong-refused bs ∙ sym (many-refused bs (ltb-false (length bs / 6) programSettings e))
+      go false false e = wrong-refused bs
 
--- ---- the reply
+  -- ---- the reply
 
-module _ (s : Script) (zs : List ℤ) where
-  refused-reply : callRefusal s zs programFuel ≡ twelve → make s zs programFuel ≡ unlessRefused (annotationRefusal s) (unmade 12 0 0)
+  abbrev twelve-reply : Reply
+  twelve-reply = unlessRefused (annotationRefusal s) (unmade 12 0 0)
+
+  refused-reply : (zs : List ℤ) → callRefusal s zs programFuel ≡ twelve → make s zs programFuel ≡ twelve-reply
   unfolding make unlessRefused orElse
-  refused-reply e = rw e (go (annotationRefusal s))
+  refused-reply zs e = rw e (go (annotationRefusal s))
     where
       go :
           (a : Option Refusal) →
@@ -78,40 +83,31 @@ module _ (s : Script) (zs : List ℤ) where
       go none = refl
       go (some f) = refl
 
-pub given-reply : (s : Script) → length (s .inputs) ≤ maxInputs → (bs : List ℕ) → make s (givenSettings bs) programFuel ≡ settingsReply (wholeSettings bs) s bs
-unfolding givenSettings givenCount givenBy settingsReply settings
-given-reply s few bs = go (ltb (length bs / 6) programSettings) (wholeSettings bs) refl
-  where
-    bad : make s (numbered (settingAt bs) 0 programSettings) programFuel ≡ unlessRefused (annotationRefusal s) (unmade 12 0 0)
-    bad =
-        refused-reply s (numbered (settingAt bs) 0 programSettings)
-        (too-many s few (numbered (settingAt bs) 0 programSettings) (omega (arith, numbered-length (settingAt bs) 0 programSettings)))
+  pub given-reply : (bs : List ℕ) → make s (givenSettings bs) programFuel ≡ settingsReply (wholeSettings bs) s bs
+  unfolding givenSettings givenCount givenBy settingsReply settings
+  given-reply bs = go (ltb (length bs / 6) programSettings) (wholeSettings bs) refl
+    where
+      wrong : make s (numbered (settingAt bs) 0 programSettings) programFuel ≡ twelve-reply
+      wrong = refused-reply (numbered (settingAt bs) 0 programSettings) (wrong-refused bs)
 
-    many : programSettings ≤ length bs / 6 → make s (settings bs) programFuel ≡ unlessRefused (annotationRefusal s) (unmade 12 0 0)
-    many h =
-        refused-reply s (settings bs)
-        (too-many s few (settings bs) (omega (arith, numbered-length (settingAt bs) 0 (length bs / 6))))
+      go :
+          (f w : Bool) → ltb (length bs / 6) programSettings ≡ f →
+          make s (numbered (settingAt bs) 0 (givenBy (f && w) (length bs / 6))) programFuel ≡ settingsReply w s bs
+      go true true e = refl
+      go true false e = wrong
+      go false true e = wrong ∙ sym (refused-reply (settings bs) (many-refused bs (ltb-false (length bs / 6) programSettings e)))
+      go false false e = wrong
 
-    go :
-        (f w : Bool) → ltb (length bs / 6) programSettings ≡ f →
-        make s (numbered (settingAt bs) 0 (givenBy (f && w) (length bs / 6))) programFuel ≡ settingsReply w s bs
-    go true true e = refl
-    go true false e = bad
-    go false true e = bad ∙ sym (many (ltb-false (length bs / 6) programSettings e))
-    go false false e = bad
-
--- more settings than a script has inputs are 12, whatever they are
-pub many-settings :
-    (s : Script) → length (s .inputs) ≤ maxInputs → (bs : List ℕ) → programSettings ≤ length bs / 6 →
-    settingsReply (wholeSettings bs) s bs ≡ unlessRefused (annotationRefusal s) (unmade 12 0 0)
-unfolding settingsReply settings
-many-settings s few bs h = go (wholeSettings bs)
-  where
-    go : (w : Bool) → settingsReply w s bs ≡ unlessRefused (annotationRefusal s) (unmade 12 0 0)
-    go true =
-        refused-reply s (settings bs)
-        (too-many s few (settings bs) (omega (arith, numbered-length (settingAt bs) 0 (length bs / 6))))
-    go false = refl
+  -- more settings than a script has inputs are 12, whatever they are
+  pub many-settings :
+      (bs : List ℕ) → programSettings ≤ length bs / 6 →
+      settingsReply (wholeSettings bs) s bs ≡ unlessRefused (annotationRefusal s) (unmade 12 0 0)
+  unfolding settingsReply
+  many-settings bs h = go (wholeSettings bs)
+    where
+      go : (w : Bool) → settingsReply w s bs ≡ twelve-reply
+      go true = refused-reply (settings bs) (many-refused bs h)
+      go false = refl
 
 -- settings have 32 bits
 pub settings-fit : (bs : List ℕ) → AllBytes bs → (i : ℕ) → Fits (getD (givenSettings bs) i (pos 0))
