@@ -6,7 +6,9 @@ use Rattle.specializer.proofs.emit.emit_constant.Statement.{statement}
 use Rattle.specializer.proofs.emit.emit_constant.Tie as tie
 
 returns : tie.Need-returns
-returns c = emits-lit (c .before .before .before .before .before .before .before .before .before .args .base) (c .before .before .before .before .before .before .before .before .before .args .k) (c .before .before .before .before .before .before .before .before .before .args .z) (c .before .before .before .before .before .before .before .before .before .pre .1) (rw (toZ-ofZ (c .before .before .before .before .before .before .before .before .before .fits .z)) at (c .before .before .before .before .before .before .emit-node .ensures)) (c .before .before .emit-node2 .ensures)
+returns c =
+    let a = c .before .before .before .before .before .before .before .before .before .args in
+    emits-lit (a .base) (a .k) (a .z) (c .before .before .before .before .before .before .before .before .before .pre .1) (rw (toZ-ofZ (c .before .before .before .before .before .before .before .before .before .fits .z)) at (c .before .before .before .before .before .before .emit-node .ensures)) (c .before .before .emit-node2 .ensures)
 
 pub emit-constant-spec : {M : Type 1} → statement M
 emit-constant-spec =

@@ -8,14 +8,19 @@ use Rattle.specializer.proofs.emit.finish.Tie as tie
 
 returns : tie.Need-returns
 returns c =
-    let d = codeAt (c .before .before .before .before .before .args .codes .now) (c .before .before .before .before .before .args .p) in
+    let a = c .before .before .before .before .before .args in
+    let d = codeAt (a .codes .now) (a .p) in
     λ s k i. finish-unfit s d k (room-over (c .before .spend .result) d (c .before .spend .ensures) (c .if1 .taken))
 
 sub-finish-file : tie.Need-sub-finish-file
-sub-finish-file c = omega (arith, room-size (c .before .spend .result) (codeAt (c .before .before .before .before .before .args .codes .now) (c .before .before .before .before .before .args .p)) (c .before .spend .ensures) (c .if1 .left))
+sub-finish-file c =
+    let a = c .before .before .before .before .before .args in
+    omega (arith, room-size (c .before .spend .result) (codeAt (a .codes .now) (a .p)) (c .before .spend .ensures) (c .if1 .left))
 
 finish-file-requires : tie.Need-finish-file-requires
-finish-file-requires c κs = room-fits (c .before .before .spend .result) (codeAt (c .before .before .before .before .before .before .args .codes .now) (c .before .before .before .before .before .before .args .p)) (c .before .before .spend .ensures) (c .before .if1 .left)
+finish-file-requires c κs =
+    let a = c .before .before .before .before .before .before .args in
+    room-fits (c .before .before .spend .result) (codeAt (a .codes .now) (a .p)) (c .before .before .spend .ensures) (c .before .if1 .left)
 
 pub finish-spec : {M : Type 1} → statement M
 finish-spec =

@@ -8,13 +8,22 @@ use Rattle.specializer.proofs.emit.finish_file.Statement.{statement}
 use Rattle.specializer.proofs.emit.finish_file.Tie as tie
 
 returns : tie.Need-returns
-returns c = λ s k i. finish-short s (inputRow (c .before .before .before .before .args .inputs .now)) (c .before .before .before .before .args .count) i (codeAt (c .before .before .before .before .args .codes .now) (c .before .before .before .before .args .p)) (c .before .before .before .before .pre .0) k (c .before .before .before .before .pre .1) (omega (arith, c .if1 .taken))
+returns c =
+    let a = c .before .before .before .before .args in
+    let p = c .before .before .before .before .pre in
+    λ s k i. finish-short s (inputRow (a .inputs .now)) (a .count) i (codeAt (a .codes .now) (a .p)) (p .0) k (p .1) (omega (arith, c .if1 .taken))
 
 write-code-requires : tie.Need-write-code-requires
-write-code-requires c κs = ((omega (arith, c .before .before .before .before .before .pre .0), fits-small (codeAt (c .before .before .before .before .before .args .codes .now) (c .before .before .before .before .before .args .p)) (c .before .before .before .before .before .pre .0) (c .before .before .before .before .before .pre .1)), omega (arith, c .before .if1 .left))
+write-code-requires c κs =
+    let p = c .before .before .before .before .before .pre in
+    let a = c .before .before .before .before .before .args in
+    ((omega (arith, p .0), fits-small (codeAt (a .codes .now) (a .p)) (p .0) (p .1)), omega (arith, c .before .if1 .left))
 
 returns-2 : tie.Need-returns-2
-returns-2 c = λ s k i. finish-written s (inputRow (c .before .before .before .before .before .before .before .before .args .inputs .now)) (c .before .before .before .before .before .before .before .before .args .count) i (codeAt (c .before .before .before .before .before .before .before .before .args .codes .now) (c .before .before .before .before .before .before .before .before .args .p)) (c .before .before .before .before .before .before .before .before .pre .0) k (c .before .before .before .before .before .before .before .before .pre .1) (omega (arith, c .before .before .before .before .if1 .left)) (c .before .before .write-code .ensures s i)
+returns-2 c =
+    let a = c .before .before .before .before .before .before .before .before .args in
+    let p = c .before .before .before .before .before .before .before .before .pre in
+    λ s k i. finish-written s (inputRow (a .inputs .now)) (a .count) i (codeAt (a .codes .now) (a .p)) (p .0) k (p .1) (omega (arith, c .before .before .before .before .if1 .left)) (c .before .before .write-code .ensures s i)
 
 pub finish-file-spec : {M : Type 1} → statement M
 finish-file-spec =

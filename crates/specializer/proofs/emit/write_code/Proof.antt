@@ -9,10 +9,20 @@ use Rattle.specializer.proofs.emit.write_code.Statement.{statement}
 use Rattle.specializer.proofs.emit.write_code.Tie as tie
 
 root-requires : tie.Need-emit-root-requires
-root-requires c κs = (omega (arith, c .before .before .before .before .before .before .before .before .before .before .before .before .fits .count), top-low (codeAt (c .before .before .before .before .before .before .before .before .before .before .before .before .args .codes .now) (c .before .before .before .before .before .before .before .before .before .before .before .before .args .p)) (c .before .before .before .before .before .before .before .before .before .before .before .before .pre .0 .0) (c .before .before .before .before .before .before .before .before .before .before .before .before .pre .0 .1))
+root-requires c κs =
+    let a = c .before .before .before .before .before .before .before .before .before .before .before .before .args in
+    let p = c .before .before .before .before .before .before .before .before .before .before .before .before .pre in
+    (omega (arith, c .before .before .before .before .before .before .before .before .before .before .before .before .fits .count), top-low (codeAt (a .codes .now) (a .p)) (p .0 .0) (p .0 .1))
 
 returns : tie.Need-returns
-returns c = λ s i. put-written s (inputRow (c .before .before .before .before .before .before .before .before .before .before .before .before .before .before .before .args .inputs .now)) (c .before .before .before .before .before .before .before .before .before .before .before .before .before .before .before .args .count) i (codeAt (c .before .before .before .before .before .before .before .before .before .before .before .before .before .before .before .args .codes .now) (c .before .before .before .before .before .before .before .before .before .before .before .before .before .before .before .args .p)) (c .before .before .before .before .before .before .before .before .before .before .before .before .before .before .before .pre .0 .0) (c .before .before .before .before .before .before .before .before .before .before .head-at .ensures) (c .before .before .before .before .before .before .inputs-at .ensures) (c .before .before .emit-root .ensures .put (omega (arith, c .before .before .before .before .before .before .before .before .before .before .before .before .before .before .before .pre .1, top-count (codeAt (c .before .before .before .before .before .before .before .before .before .before .before .before .before .before .before .args .codes .now) (c .before .before .before .before .before .before .before .before .before .before .before .before .before .before .before .args .p)) (c .before .before .before .before .before .before .before .before .before .before .before .before .before .before .before .pre .0 .0) (c .before .before .emit-root .ensures .number), put-length (c .before .before .before .before .before .before .before .before .before .before .head-at .ensures), put-length (c .before .before .before .before .before .before .inputs-at .ensures))))
+returns c =
+    let a = c .before .before .before .before .before .before .before .before .before .before .before .before .before .before .before .args in
+    let p = c .before .before .before .before .before .before .before .before .before .before .before .before .before .before .before .pre in
+    let head-at = c .before .before .before .before .before .before .before .before .before .before .head-at in
+    let inputs-at = c .before .before .before .before .before .before .inputs-at in
+    let emit-root = c .before .before .emit-root in
+    let d = codeAt (a .codes .now) (a .p) in
+    λ s i. put-written s (inputRow (a .inputs .now)) (a .count) i d (p .0 .0) (head-at .ensures) (inputs-at .ensures) (emit-root .ensures .put (omega (arith, p .1, top-count d (p .0 .0) (emit-root .ensures .number), put-length (head-at .ensures), put-length (inputs-at .ensures))))
 
 pub write-code-spec : {M : Type 1} → statement M
 write-code-spec =

@@ -1,6 +1,5 @@
 -- `specializer::size::spend` meets its contract: past the end stands a constant, else the root's node is counted. Assumes nothing.
 use borrow.Author.Needs.{needs}
-use mathlib.Core.Path.{refl}
 use Rattle.specializer.proofs.CellLaws.{whole-past, whole-under}
 use Rattle.specializer.proofs.size.spend.Statement.{statement}
 use Rattle.specializer.proofs.size.spend.Tie as tie
