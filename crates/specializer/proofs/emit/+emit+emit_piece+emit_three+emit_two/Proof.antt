@@ -33,7 +33,7 @@ use Rattle.script.proofs.word.kind.Reads as kind-reads
 use Rattle.specializer.proofs.code.last_field.Reads as last-field-reads
 use Rattle.script.proofs.word.field_b.Reads as field-b-reads
 use Rattle.script.proofs.word.field_c.Reads as field-c-reads
-use Rattle.specializer.proofs.emit.emit_constant.Reads as emit-value-reads
+use Rattle.specializer.proofs.emit.emit_constant.Reads as emit-constant-reads
 use Rattle.specializer.proofs.emit.emit_node.Reads as emit-node-reads
 use Rattle.specializer.proofs.emit.+emit+emit_piece+emit_three+emit_two.{statement}
 use Rattle.specializer.proofs.emit.+emit+emit_piece+emit_three+emit_two.Tie.{close}
@@ -94,14 +94,14 @@ emit-calls t = (
   emit-three.Post,
   value-reads.Asked,
   value-reads.Learnt,
-  emit-value-reads.Asked,
-  emit-value-reads.Learnt,
+  emit-constant-reads.Asked,
+  emit-constant-reads.Learnt,
 )
 
 abbrev emit-piece-calls : ℕ → emit-piece-lts.Claims
 emit-piece-calls t = (
-  emit-value-reads.Asked,
-  emit-value-reads.Learnt,
+  emit-constant-reads.Asked,
+  emit-constant-reads.Learnt,
   kind-reads.Asked,
   kind-reads.Learnt,
   field-a-reads.Asked,
@@ -148,73 +148,81 @@ emit-two-calls t = (
 
 variable-returns : (t : ℕ) → emit-lts.Need-returns (emit-calls t) (emit-at t) emit.Post
 variable-returns t c =
-    let a = c .before .before .before .before .before .before .before .before .before .args in
-    emits-code (over-variable (is-variable (record { word = c .before .before .before .before .before .before .before .before .before .pre .1 .1 .1; kind = c .before .before .before .before .before .before .kind .ensures }) (c .before .before .before .before .before .match .keys1) .code) (c .before .before .before .field-a .ensures)) (c .before .before .before .before .before .before .before .before .before .pre .1 .0 .1) (emits-over emits-none (c .before .before .emit-node .ensures))
+    let p = c .before .before .before .before .before .before .before .before .before .pre in
+    emits-code (over-variable (is-variable (record { word = p .1 .1 .1; kind = c .before .before .before .before .before .before .kind .ensures }) (c .before .before .before .before .before .match .keys1) .code) (c .before .before .before .field-a .ensures)) (p .1 .0 .1) (emits-over emits-none (c .before .before .emit-node .ensures))
 
 function-piece : (t : ℕ) → emit-lts.Need-emit-piece-requires (emit-calls t) (emit-at t) emit.Post
 function-piece t c κs =
     let a = c .before .before .before .before .before .before .args in
     let self = codeBelow (a .codes .now) (a .p) in
-    (omega (arith, c .before .before .before .before .before .before .pre .0), ((c .before .before .before .before .before .before .pre .1 .0 .0, low-first self (a .k) nilC (c .before .field-c .ensures) (over-low (over-function self (is-function (record { word = c .before .before .before .before .before .before .pre .1 .1 .1; kind = c .before .before .before .kind .ensures }) (c .before .before .match .keys2) .code) refl) (a .k) (c .before .before .before .before .before .before .pre .1 .0 .1))), c .before .before .before .before .before .before .pre .1 .1 .0))
+    let p = c .before .before .before .before .before .before .pre in
+    (omega (arith, p .0), ((p .1 .0 .0, low-first self (a .k) nilC (c .before .field-c .ensures) (over-low (over-function self (is-function (record { word = p .1 .1 .1; kind = c .before .before .before .kind .ensures }) (c .before .before .match .keys2) .code) refl) (a .k) (p .1 .0 .1))), p .1 .1 .0))
 
 function-returns : (t : ℕ) → emit-lts.Need-returns-2 (emit-calls t) (emit-at t) emit.Post
 function-returns t c =
     let a = c .before .before .before .before .before .before .before .before .before .before .before .before .before .before .args in
     let self = codeBelow (a .codes .now) (a .p) in
-    emits-code (over-function self (is-function (record { word = c .before .before .before .before .before .before .before .before .before .before .before .before .before .before .pre .1 .1 .1; kind = c .before .before .before .before .before .before .before .before .before .before .before .kind .ensures }) (c .before .before .before .before .before .before .before .before .before .before .match .keys2) .code) (c .before .before .before .field-a2 .ensures)) (c .before .before .before .before .before .before .before .before .before .before .before .before .before .before .pre .1 .0 .1)
+    let p = c .before .before .before .before .before .before .before .before .before .before .before .before .before .before .pre in
+    emits-code (over-function self (is-function (record { word = p .1 .1 .1; kind = c .before .before .before .before .before .before .before .before .before .before .before .kind .ensures }) (c .before .before .before .before .before .before .before .before .before .before .match .keys2) .code) (c .before .before .before .field-a2 .ensures)) (p .1 .0 .1)
     (emits-over (emits-more self (c .before .before .before .before .before .before .before .before .before .field-c .ensures) (c .before .before .before .before .before .before .before .emit-piece .ensures) emits-none) (c .before .before .emit-node2 .ensures))
 
 two-requires : (t : ℕ) → emit-lts.Need-emit-two-requires (emit-calls t) (emit-at t) emit.Post
 two-requires t c κs =
     let a = c .before .before .before .before .before .args in
-    (omega (arith, c .before .before .before .before .before .pre .0), ((c .before .before .before .before .before .pre .1 .0 .0, over-low (over-two (record { word = c .before .before .before .before .before .pre .1 .1 .1; kind = c .before .before .kind .ensures }) (c .before .match .keys3)) (a .k) (c .before .before .before .before .before .pre .1 .0 .1)), (c .before .before .before .before .before .pre .1 .1 .0, ⊎-elim (λ e. omega (arith, e, c .before .before .kind .ensures)) (λ e. omega (arith, e, c .before .before .kind .ensures)) (c .before .match .keys3))))
+    let p = c .before .before .before .before .before .pre in
+    (omega (arith, p .0), ((p .1 .0 .0, over-low (over-two (record { word = p .1 .1 .1; kind = c .before .before .kind .ensures }) (c .before .match .keys3)) (a .k) (p .1 .0 .1)), (p .1 .1 .0, ⊎-elim (λ e. omega (arith, e, c .before .before .kind .ensures)) (λ e. omega (arith, e, c .before .before .kind .ensures)) (c .before .match .keys3))))
 
 two-returns : (t : ℕ) → emit-lts.Need-returns-3 (emit-calls t) (emit-at t) emit.Post
 two-returns t c =
-    let a = c .before .before .before .before .before .before .before .before .args in
-    emits-code (over-two (record { word = c .before .before .before .before .before .before .before .before .pre .1 .1 .1; kind = c .before .before .before .before .before .kind .ensures }) (c .before .before .before .before .match .keys3)) (c .before .before .before .before .before .before .before .before .pre .1 .0 .1) (c .before .before .emit-two .ensures)
+    let p = c .before .before .before .before .before .before .before .before .pre in
+    emits-code (over-two (record { word = p .1 .1 .1; kind = c .before .before .before .before .before .kind .ensures }) (c .before .before .before .before .match .keys3)) (p .1 .0 .1) (c .before .before .emit-two .ensures)
 
 single-piece : (t : ℕ) → emit-lts.Need-emit-piece-requires-2 (emit-calls t) (emit-at t) emit.Post
 single-piece t c κs =
     let a = c .before .before .before .before .before .before .args in
     let self = codeBelow (a .codes .now) (a .p) in
-    (omega (arith, c .before .before .before .before .before .before .pre .0), ((c .before .before .before .before .before .before .pre .1 .0 .0, low-first self (a .k) nilC (c .before .field-a3 .ensures) (over-low (over-single self (is-single (record { word = c .before .before .before .before .before .before .pre .1 .1 .1; kind = c .before .before .before .kind .ensures }) (c .before .before .match .keys4) .code)) (a .k) (c .before .before .before .before .before .before .pre .1 .0 .1))), c .before .before .before .before .before .before .pre .1 .1 .0))
+    let p = c .before .before .before .before .before .before .pre in
+    (omega (arith, p .0), ((p .1 .0 .0, low-first self (a .k) nilC (c .before .field-a3 .ensures) (over-low (over-single self (is-single (record { word = p .1 .1 .1; kind = c .before .before .before .kind .ensures }) (c .before .before .match .keys4) .code)) (a .k) (p .1 .0 .1))), p .1 .1 .0))
 
 single-returns : (t : ℕ) → emit-lts.Need-returns-4 (emit-calls t) (emit-at t) emit.Post
 single-returns t c =
     let a = c .before .before .before .before .before .before .before .before .before .before .before .before .before .args in
     let self = codeBelow (a .codes .now) (a .p) in
-    emits-code (over-single self (is-single (record { word = c .before .before .before .before .before .before .before .before .before .before .before .before .before .pre .1 .1 .1; kind = c .before .before .before .before .before .before .before .before .before .before .kind .ensures }) (c .before .before .before .before .before .before .before .before .before .match .keys4) .code)) (c .before .before .before .before .before .before .before .before .before .before .before .before .before .pre .1 .0 .1)
+    let p = c .before .before .before .before .before .before .before .before .before .before .before .before .before .pre in
+    emits-code (over-single self (is-single (record { word = p .1 .1 .1; kind = c .before .before .before .before .before .before .before .before .before .before .kind .ensures }) (c .before .before .before .before .before .before .before .before .before .match .keys4) .code)) (p .1 .0 .1)
     (emits-over (emits-more self (c .before .before .before .before .before .before .before .before .field-a3 .ensures) (c .before .before .before .before .before .before .emit-piece2 .ensures) emits-none) (c .before .before .emit-node3 .ensures))
 
 three-requires : (t : ℕ) → emit-lts.Need-emit-three-requires (emit-calls t) (emit-at t) emit.Post
 three-requires t c κs =
     let a = c .before .before .before .before .before .args in
-    (omega (arith, c .before .before .before .before .before .pre .0), ((c .before .before .before .before .before .pre .1 .0 .0, over-low (over-three (record { word = c .before .before .before .before .before .pre .1 .1 .1; kind = c .before .before .kind .ensures }) (c .before .match .keys5)) (a .k) (c .before .before .before .before .before .pre .1 .0 .1)), c .before .before .before .before .before .pre .1 .1 .0))
+    let p = c .before .before .before .before .before .pre in
+    (omega (arith, p .0), ((p .1 .0 .0, over-low (over-three (record { word = p .1 .1 .1; kind = c .before .before .kind .ensures }) (c .before .match .keys5)) (a .k) (p .1 .0 .1)), p .1 .1 .0))
 
 three-returns : (t : ℕ) → emit-lts.Need-returns-5 (emit-calls t) (emit-at t) emit.Post
 three-returns t c =
-    let a = c .before .before .before .before .before .before .before .before .args in
-    emits-code (over-three (record { word = c .before .before .before .before .before .before .before .before .pre .1 .1 .1; kind = c .before .before .before .before .before .kind .ensures }) (c .before .before .before .before .match .keys5)) (c .before .before .before .before .before .before .before .before .pre .1 .0 .1) (c .before .before .emit-three .ensures)
+    let p = c .before .before .before .before .before .before .before .before .pre in
+    emits-code (over-three (record { word = p .1 .1 .1; kind = c .before .before .before .before .before .kind .ensures }) (c .before .before .before .before .match .keys5)) (p .1 .0 .1) (c .before .before .emit-three .ensures)
 
 constant-requires : (t : ℕ) → emit-lts.Need-emit-constant-requires (emit-calls t) (emit-at t) emit.Post
 constant-requires t c κs =
     let a = c .before .before .before .before .before .before .args in
     let r = c .before .before .match .rest in
-    (c .before .before .before .before .before .before .pre .1 .0 .0, low-constant (is-constant (record { word = c .before .before .before .before .before .before .pre .1 .1 .1; kind = c .before .before .before .kind .ensures }) (r .0 .0 .0 .0 .1) (r .0 .0 .0 .1) (r .0 .0 .1) (r .0 .1) (r .1) .code) (a .k) (c .before .before .before .before .before .before .pre .1 .0 .1))
+    let p = c .before .before .before .before .before .before .pre in
+    (p .1 .0 .0, low-constant (is-constant (record { word = p .1 .1 .1; kind = c .before .before .before .kind .ensures }) (r .0 .0 .0 .0 .1) (r .0 .0 .0 .1) (r .0 .0 .1) (r .0 .1) (r .1) .code) (a .k) (p .1 .0 .1))
 
 constant-returns : (t : ℕ) → emit-lts.Need-returns-6 (emit-calls t) (emit-at t) emit.Post
 constant-returns t c =
-    let a = c .before .before .before .before .before .before .before .before .before .args in
     let r = c .before .before .before .before .before .match .rest in
-    emits-constant (is-constant (record { word = c .before .before .before .before .before .before .before .before .before .pre .1 .1 .1; kind = c .before .before .before .before .before .before .kind .ensures }) (r .0 .0 .0 .0 .1) (r .0 .0 .0 .1) (r .0 .0 .1) (r .0 .1) (r .1) .code) (_∙_ {b = c .before .before .before .value .result} (toZ-ofZ {w = w32} (record { sfits = c .before .before .before .value .ok })) (search (c .before .before .before .value .ensures))) (c .before .before .emit-constant .ensures)
+    let value = c .before .before .before .value in
+    emits-constant (is-constant (record { word = c .before .before .before .before .before .before .before .before .before .pre .1 .1 .1; kind = c .before .before .before .before .before .before .kind .ensures }) (r .0 .0 .0 .0 .1) (r .0 .0 .0 .1) (r .0 .0 .1) (r .0 .1) (r .1) .code) (_∙_ {b = value .result} (toZ-ofZ {w = w32} (record { sfits = value .ok })) (search (value .ensures))) (c .before .before .emit-constant .ensures)
 
 -- ---- emit_piece
 
 piece-room : (t : ℕ) → emit-piece-lts.Need-emit-constant-requires (emit-piece-calls t) (emit-piece-at t) emit-piece.Post
 piece-room t c κs =
     let a = c .before .before .before .before .args in
-    (c .before .before .before .before .pre .1 .0 .0, low-constant (below-none (a .codes .now) (a .p) (a .q) (c .before .if1 .taken)) (a .k) (c .before .before .before .before .pre .1 .0 .1))
+    let p = c .before .before .before .before .pre in
+    (p .1 .0 .0, low-constant (below-none (a .codes .now) (a .p) (a .q) (c .before .if1 .taken)) (a .k) (p .1 .0 .1))
 
 piece-constant : (t : ℕ) → emit-piece-lts.Need-returns (emit-piece-calls t) (emit-piece-at t) emit-piece.Post
 piece-constant t c =
@@ -233,7 +241,9 @@ piece-variable t c =
 piece-emit : (t : ℕ) → emit-piece-lts.Need-emit-requires (emit-piece-calls t) (emit-piece-at t) emit-piece.Post
 piece-emit t c κs =
     let a = c .before .before .before .before .before .before .before .args in
-    (omega (arith, c .before .before .before .before .before .before .before .pre .0, c .before .before .before .before .if1 .left), ((c .before .before .before .before .before .before .before .pre .1 .0 .0, rw (below-there (a .codes .now) (a .p) (a .q) (c .before .before .before .before .if1 .left)) at (c .before .before .before .before .before .before .before .pre .1 .0 .1)), (omega (arith, c .before .before .before .before .before .before .before .pre .1 .1, c .before .before .before .before .if1 .left), refl)))
+    let p = c .before .before .before .before .before .before .before .pre in
+    let if1 = c .before .before .before .before .if1 in
+    (omega (arith, p .0, if1 .left), ((p .1 .0 .0, rw (below-there (a .codes .now) (a .p) (a .q) (if1 .left)) at (p .1 .0 .1)), (omega (arith, p .1 .1, if1 .left), refl)))
 
 piece-code : (t : ℕ) → emit-piece-lts.Need-returns-3 (emit-piece-calls t) (emit-piece-at t) emit-piece.Post
 piece-code t c =
@@ -246,19 +256,25 @@ three-first : (t : ℕ) → emit-three-lts.Need-emit-piece-requires (emit-three-
 three-first t c κs =
     let a = c .before .before .before .before .args in
     let self = codeBelow (a .codes .now) (a .p) in
-    (omega (arith, c .before .before .before .before .pre .0), ((c .before .before .before .before .pre .1 .0 .0, low-first self (a .k) (two (self (wordB (a .x))) (self (wordC (a .x)))) (c .before .field-a .ensures) (c .before .before .before .before .pre .1 .0 .1)), c .before .before .before .before .pre .1 .1))
+    let p = c .before .before .before .before .pre in
+    (omega (arith, p .0), ((p .1 .0 .0, low-first self (a .k) (two (self (wordB (a .x))) (self (wordC (a .x)))) (c .before .field-a .ensures) (p .1 .0 .1)), p .1 .1))
 
 three-second : (t : ℕ) → emit-three-lts.Need-emit-piece-requires-2 (emit-three-calls t) (emit-three-at t) emit-three.Post
 three-second t c κs =
     let a = c .before .before .before .before .before .before .before .before .before .args in
     let self = codeBelow (a .codes .now) (a .p) in
-    (omega (arith, c .before .before .before .before .before .before .before .before .before .pre .0), ((c .before .before .before .before .before .before .before .before .before .pre .1 .0 .0, low-first self (c .before .before .before .before .emit-piece .result + 1) (consC (self (wordC (a .x))) nilC) (c .before .field-b .ensures) (low-rest self (a .k) (two (self (wordB (a .x))) (self (wordC (a .x)))) (c .before .before .before .before .before .before .field-a .ensures) (c .before .before .before .before .before .before .before .before .before .pre .1 .0 .1) (c .before .before .before .before .emit-piece .ensures .number))), c .before .before .before .before .before .before .before .before .before .pre .1 .1))
+    let p = c .before .before .before .before .before .before .before .before .before .pre in
+    let first = c .before .before .before .before .emit-piece in
+    (omega (arith, p .0), ((p .1 .0 .0, low-first self (first .result + 1) (consC (self (wordC (a .x))) nilC) (c .before .field-b .ensures) (low-rest self (a .k) (two (self (wordB (a .x))) (self (wordC (a .x)))) (c .before .before .before .before .before .before .field-a .ensures) (p .1 .0 .1) (first .ensures .number))), p .1 .1))
 
 three-third : (t : ℕ) → emit-three-lts.Need-emit-piece-requires-3 (emit-three-calls t) (emit-three-at t) emit-three.Post
 three-third t c κs =
     let a = c .before .before .before .before .before .before .before .before .before .before .before .before .before .before .args in
     let self = codeBelow (a .codes .now) (a .p) in
-    (omega (arith, c .before .before .before .before .before .before .before .before .before .before .before .before .before .before .pre .0), ((c .before .before .before .before .before .before .before .before .before .before .before .before .before .before .pre .1 .0 .0, low-first self (c .before .before .before .before .emit-piece2 .result + 1) nilC (c .before .field-c .ensures) (low-rest self (c .before .before .before .before .before .before .before .before .before .emit-piece .result + 1) (consC (self (wordC (a .x))) nilC) (c .before .before .before .before .before .before .field-b .ensures) (low-rest self (a .k) (two (self (wordB (a .x))) (self (wordC (a .x)))) (c .before .before .before .before .before .before .before .before .before .before .before .field-a .ensures) (c .before .before .before .before .before .before .before .before .before .before .before .before .before .before .pre .1 .0 .1) (c .before .before .before .before .before .before .before .before .before .emit-piece .ensures .number)) (c .before .before .before .before .emit-piece2 .ensures .number))), c .before .before .before .before .before .before .before .before .before .before .before .before .before .before .pre .1 .1))
+    let p = c .before .before .before .before .before .before .before .before .before .before .before .before .before .before .pre in
+    let first = c .before .before .before .before .before .before .before .before .before .emit-piece in
+    let second = c .before .before .before .before .emit-piece2 in
+    (omega (arith, p .0), ((p .1 .0 .0, low-first self (second .result + 1) nilC (c .before .field-c .ensures) (low-rest self (first .result + 1) (consC (self (wordC (a .x))) nilC) (c .before .before .before .before .before .before .field-b .ensures) (low-rest self (a .k) (two (self (wordB (a .x))) (self (wordC (a .x)))) (c .before .before .before .before .before .before .before .before .before .before .before .field-a .ensures) (p .1 .0 .1) (first .ensures .number)) (second .ensures .number))), p .1 .1))
 
 over-three-returns : (t : ℕ) → emit-three-lts.Need-returns (emit-three-calls t) (emit-three-at t) emit-three.Post
 unfolding threeNode
@@ -272,13 +288,16 @@ two-first : (t : ℕ) → emit-two-lts.Need-emit-piece-requires (emit-two-calls 
 two-first t c κs =
     let a = c .before .before .before .before .args in
     let self = codeBelow (a .codes .now) (a .p) in
-    (omega (arith, c .before .before .before .before .pre .0), ((c .before .before .before .before .pre .1 .0 .0, low-first self (a .k) (consC (self (wordB (a .x))) nilC) (c .before .field-a .ensures) (c .before .before .before .before .pre .1 .0 .1)), c .before .before .before .before .pre .1 .1 .0))
+    let p = c .before .before .before .before .pre in
+    (omega (arith, p .0), ((p .1 .0 .0, low-first self (a .k) (consC (self (wordB (a .x))) nilC) (c .before .field-a .ensures) (p .1 .0 .1)), p .1 .1 .0))
 
 two-second : (t : ℕ) → emit-two-lts.Need-emit-piece-requires-2 (emit-two-calls t) (emit-two-at t) emit-two.Post
 two-second t c κs =
     let a = c .before .before .before .before .before .before .before .before .before .args in
     let self = codeBelow (a .codes .now) (a .p) in
-    (omega (arith, c .before .before .before .before .before .before .before .before .before .pre .0), ((c .before .before .before .before .before .before .before .before .before .pre .1 .0 .0, low-first self (c .before .before .before .before .emit-piece .result + 1) nilC (c .before .field-b .ensures) (low-rest self (a .k) (consC (self (wordB (a .x))) nilC) (c .before .before .before .before .before .before .field-a .ensures) (c .before .before .before .before .before .before .before .before .before .pre .1 .0 .1) (c .before .before .before .before .emit-piece .ensures .number))), c .before .before .before .before .before .before .before .before .before .pre .1 .1 .0))
+    let p = c .before .before .before .before .before .before .before .before .before .pre in
+    let first = c .before .before .before .before .emit-piece in
+    (omega (arith, p .0), ((p .1 .0 .0, low-first self (first .result + 1) nilC (c .before .field-b .ensures) (low-rest self (a .k) (consC (self (wordB (a .x))) nilC) (c .before .before .before .before .before .before .field-a .ensures) (p .1 .0 .1) (first .ensures .number))), p .1 .1 .0))
 
 two-kind : (t : ℕ) → emit-two-lts.Need-cast-emit-node (emit-two-calls t) (emit-two-at t) emit-two.Post
 two-kind t c = record { fits = omega (arith, c .before .before .before .kind .ensures, c .before .before .before .before .before .before .before .before .before .before .before .before .before .before .before .before .pre .1 .1 .1) }
@@ -286,8 +305,10 @@ two-kind t c = record { fits = omega (arith, c .before .before .before .kind .en
 over-two-returns : (t : ℕ) → emit-two-lts.Need-returns (emit-two-calls t) (emit-two-at t) emit-two.Post
 over-two-returns t c =
     let self = codeBelow (c .before .before .before .before .before .before .before .before .before .before .before .before .before .before .before .before .before .before .before .args .codes .now) (c .before .before .before .before .before .before .before .before .before .before .before .before .before .before .before .before .before .before .before .args .p) in
-    emits-over (emits-more self (c .before .before .before .before .before .before .before .before .before .before .before .before .before .before .before .before .field-a .ensures) (c .before .before .before .before .before .before .before .before .before .before .before .before .before .before .emit-piece .ensures) (emits-more self (c .before .before .before .before .before .before .before .before .before .before .before .field-b .ensures) (c .before .before .before .before .before .before .before .before .before .emit-piece2 .ensures) emits-none))
-    (put-two (c .before .before .before .before .before .before .before .before .before .before .before .before .before .before .before .before .before .before .before .args .x) (c .before .before .before .before .before .before .before .before .before .before .before .before .before .before .emit-piece .result) (c .before .before .before .before .before .before .before .before .before .emit-piece2 .result) (c .before .before .before .before .before .before .kind .ensures) (c .before .before .before .before .before .field-c .ensures) (c .before .before .before .before .last-field .ensures) (c .before .before .emit-node .ensures))
+    let first = c .before .before .before .before .before .before .before .before .before .before .before .before .before .before .emit-piece in
+    let second = c .before .before .before .before .before .before .before .before .before .emit-piece2 in
+    emits-over (emits-more self (c .before .before .before .before .before .before .before .before .before .before .before .before .before .before .before .before .field-a .ensures) (first .ensures) (emits-more self (c .before .before .before .before .before .before .before .before .before .before .before .field-b .ensures) (second .ensures) emits-none))
+    (put-two (c .before .before .before .before .before .before .before .before .before .before .before .before .before .before .before .before .before .before .before .args .x) (first .result) (second .result) (c .before .before .before .before .before .before .kind .ensures) (c .before .before .before .before .before .field-c .ensures) (c .before .before .before .before .last-field .ensures) (c .before .before .emit-node .ensures))
 
 pub +emit+emit-piece+emit-three+emit-two-spec : {M : Type 1} → statement M
 +emit+emit-piece+emit-three+emit-two-spec =

@@ -85,7 +85,10 @@ flat-returns : (t : ℕ) → spend-piece-lts.Need-returns-4 (spend-piece-calls t
 flat-returns t c = spends-flat (c .before .before .before .before .if2 .left) (record { word = refl; kind = c .before .before .kind .ensures }) (c .before .if3 .left) (c .if4 .taken)
 
 pieces-requires : (t : ℕ) → spend-piece-lts.Need-spend-pieces-requires (spend-piece-calls t) (spend-piece-at t) spend-piece.Post
-pieces-requires t c κs = (omega (arith, c .before .before .before .before .before .before .before .pre .0, c .before .before .before .before .if2 .left), (omega (arith, c .before .before .before .before .before .before .before .pre .1, c .before .before .before .before .if2 .left), refl))
+pieces-requires t c κs =
+    let p = c .before .before .before .before .before .before .before .pre in
+    let if2 = c .before .before .before .before .if2 in
+    (omega (arith, p .0, if2 .left), (omega (arith, p .1, if2 .left), refl))
 
 under-returns : (t : ℕ) → spend-piece-lts.Need-returns-5 (spend-piece-calls t) (spend-piece-at t) spend-piece.Post
 under-returns t c = spends-under (c .before .before .before .before .before .if2 .left) (c .before .if4 .left) (c .spend-pieces .ensures)
