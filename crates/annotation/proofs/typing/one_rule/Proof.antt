@@ -14,7 +14,7 @@ returns-3 : tie.Need-returns-3
 returns-3 c = search fix-ruled
 
 returns-4 : tie.Need-returns-4
-returns-4 c = dynamic-one-ruled (c .before .before .before .before .before .before .pre) (c .before .before .match .rest .0 .1) (c .before .before .match .rest .1) (c .before .before .before .before .if1 .left) (c .before .before .before .type-in .ensures) (c .given2 .ensures)
+returns-4 c = search dynamic-one-ruled
 
 pub one-rule-spec : {M : Type 1} → statement M
 one-rule-spec = tie.close (tie.spec returns (λ c κs. search needs) (λ c κs. search needs) (λ c κs. search needs) (λ c κs. search needs) returns-2 returns-3 returns-4)
