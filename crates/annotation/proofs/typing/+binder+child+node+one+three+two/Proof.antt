@@ -158,7 +158,7 @@ node-returns-5 : (t : ℕ) → node-lts.Need-returns-5 (node-calls t) (node-at t
 node-returns-5 t c = c .three .ensures
 
 node-returns-6 : (t : ℕ) → node-lts.Need-returns-6 (node-calls t) (node-at t) node.Post
-node-returns-6 t c = at-constant (c .before .before .before .word-at .ensures) (c .before .before .kind .ensures) (c .before .match .rest .0 .0 .0 .0 .1) (c .before .match .rest .0 .0 .0 .1) (c .before .match .rest .0 .0 .1) (c .before .match .rest .0 .1) (c .before .match .rest .1) (c .typed .ensures)
+node-returns-6 t c = search at-constant
 
 one-child-requires : (t : ℕ) → one-lts.Need-child-requires (one-calls t) (one-at t) one.Post
 one-child-requires t c κs = (omega (arith, c .before .before .pre .0), tt)
@@ -167,7 +167,7 @@ one-one-rule-requires : (t : ℕ) → one-lts.Need-one-rule-requires (one-calls 
 one-one-rule-requires t c κs = rw (c .kind .ensures) (c .before .before .before .before .before .pre .1 .kind)
 
 one-returns : (t : ℕ) → one-lts.Need-returns (one-calls t) (one-at t) one.Post
-one-returns t c = at-one (c .before .before .before .before .before .before .pre .1) (c .before .kind .ensures) (c .before .before .before .child .ensures) (omega (arith, c .before .before .before .before .field-a .ensures)) (c .one-rule .ensures)
+one-returns t c = search (at-one, arith)
 
 three-child-requires : (t : ℕ) → three-lts.Need-child-requires (three-calls t) (three-at t) three.Post
 three-child-requires t c κs = (omega (arith, c .before .before .before .before .pre .0), tt)
@@ -182,7 +182,7 @@ three-three-rule-requires : (t : ℕ) → three-lts.Need-three-rule-requires (th
 three-three-rule-requires t c κs = rw (c .kind .ensures) (c .before .before .before .before .before .before .before .before .before .before .before .pre .1 .kind)
 
 three-returns : (t : ℕ) → three-lts.Need-returns (three-calls t) (three-at t) three.Post
-three-returns t c = at-three (c .before .before .before .before .before .before .before .before .before .before .before .before .pre .1) (c .before .kind .ensures) (c .before .before .before .before .before .before .before .child .ensures) (c .before .before .before .before .before .child2 .ensures) (c .before .before .before .child3 .ensures) (omega (arith, c .before .before .before .before .before .before .before .before .before .before .before .field-a .ensures)) (omega (arith, c .before .before .before .before .before .before .before .before .before .before .field-b .ensures)) (omega (arith, c .before .before .before .before .before .before .before .before .before .field-c .ensures)) (c .three-rule .ensures)
+three-returns t c = search (at-three, arith)
 
 two-child-requires : (t : ℕ) → two-lts.Need-child-requires (two-calls t) (two-at t) two.Post
 two-child-requires t c κs = (omega (arith, c .before .before .pre .0), tt)
@@ -194,7 +194,7 @@ two-two-rule-requires : (t : ℕ) → two-lts.Need-two-rule-requires (two-calls 
 two-two-rule-requires t c κs = rw (c .kind .ensures) (c .before .before .before .before .before .before .before .before .pre .1 .kind)
 
 two-returns : (t : ℕ) → two-lts.Need-returns (two-calls t) (two-at t) two.Post
-two-returns t c = at-two (c .before .before .before .before .before .before .before .before .before .pre .1) (c .before .kind .ensures) (c .before .before .before .before .before .before .child .ensures) (c .before .before .before .child2 .ensures) (omega (arith, c .before .before .before .before .before .before .before .field-a .ensures)) (omega (arith, c .before .before .before .before .field-b .ensures)) (c .two-rule .ensures)
+two-returns t c = search (at-two, arith)
 
 pub +binder+child+node+one+three+two-spec : {M : Type 1} → statement M
 +binder+child+node+one+three+two-spec =
