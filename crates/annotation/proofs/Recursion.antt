@@ -157,8 +157,8 @@ binder-some : {k : ℕ} → BindsName k → 0 < k
 binder-some abstracts = omega arith
 binder-some abstracts-dynamic = omega arith
 
-module _ {words ts before pushed after : List ℕ} {d inner i w p v m e : ℕ}
-    (o : w ≡ getD words i 0) (pairs : Pair v (wordA w) p) (push : Pushed v d inner before pushed) (f : m ≡ wordC w)
+module _ {words ts before pushed after : List ℕ} {d inner i w g p v m e : ℕ}
+    (o : w ≡ getD words i 0) (name : g ≡ wordA w) (pairs : Pair v g p) (push : Pushed v d inner before pushed) (f : m ≡ wordC w)
     (a : ChildAnswers words ts pushed after inner i m e) where
   module _ (s : Script) (Γ : Context) (l : Lent s words ts) (b : Binds s before d Γ) (h : i < nodeCount s)
       (room : d + height (tree s i) ≤ length before) (n : BindsName (wordKind w)) where
@@ -175,7 +175,7 @@ module _ {words ts before pushed after : List ℕ} {d inner i w p v m e : ℕ}
         let high : height (tree s i) ≡ suc (max (height (tree s m)) 0) = tree-height s ok i h ∙ rw body-children in
         let (x, _) = push .top (omega arith) in
         let u = rw body-children at (below-parent s ok i h) in
-        a .reply (u .0) .reply s _ l (binds-more push (omega arith) pairs known b) (omega (arith, u .0)) (omega (arith, push .kept .same))
+        a .reply (u .0) .reply s _ l (binds-more push (omega arith) (rw name at pairs) known b) (omega (arith, u .0)) (omega (arith, push .kept .same))
 
     static-tree : wordKind w ≡ 3 → tree s i ≡ lam i (wordA w) (wordB w) (tree s m)
     unfolding rowOf rows build childAt terms nodeAt

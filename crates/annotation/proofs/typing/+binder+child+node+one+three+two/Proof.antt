@@ -119,7 +119,7 @@ binder-child-requires : (t : ℕ) → binder-lts.Need-child-requires (binder-cal
 binder-child-requires t c κs = (omega (arith, c .before .before .before .before .before .before .before .pre .0), tt)
 
 binder-returns : (t : ℕ) → binder-lts.Need-returns (binder-calls t) (binder-at t) binder.Post
-binder-returns t c = at-binder (c .before .before .before .before .before .before .before .before .before .before .before .pre .1 .word) (rw (c .before .before .before .before .before .before .before .before .field-a .ensures) at (c .before .before .before .before .before .before .before .pair .ensures .0)) (c .before .before .before .before .before .before .push .ensures) (c .before .before .before .before .field-c .ensures) (c .before .before .before .child .ensures) (c .before .before .before .before .before .before .before .before .before .before .before .pre .1 .kind) (c .before .before .before .before .before .before .before .before .before .before .parameter .ensures) (c .before .kind .ensures) (c .binder-rule .ensures)
+binder-returns t c = search (at-binder, arith)
 
 child-node-requires : (t : ℕ) → child-lts.Need-node-requires (child-calls t) (child-at t) child.Post
 child-node-requires t c κs = (omega (arith, c .before .before .pre .0, c .before .if1 .taken), tt)
@@ -131,16 +131,16 @@ child-returns-2 : (t : ℕ) → child-lts.Need-returns-2 (child-calls t) (child-
 child-returns-2 t c = no-smaller (c .before .if1 .left)
 
 node-one-requires : (t : ℕ) → node-lts.Need-one-requires (node-calls t) (node-at t) node.Post
-node-one-requires t c κs = (omega (arith, c .before .before .before .before .before .pre .0), of-one (c .before .before .before .word-at .ensures) (c .before .before .kind .ensures) (c .before .match .keys2))
+node-one-requires t c κs = (omega (arith, c .before .before .before .before .before .pre .0), search of-one)
 
 node-binder-requires : (t : ℕ) → node-lts.Need-binder-requires (node-calls t) (node-at t) node.Post
-node-binder-requires t c κs = (omega (arith, c .before .before .before .before .before .pre .0), of-binder (c .before .before .before .word-at .ensures) (c .before .before .kind .ensures) (c .before .match .keys3))
+node-binder-requires t c κs = (omega (arith, c .before .before .before .before .before .pre .0), search of-binder)
 
 node-two-requires : (t : ℕ) → node-lts.Need-two-requires (node-calls t) (node-at t) node.Post
-node-two-requires t c κs = (omega (arith, c .before .before .before .before .before .pre .0), of-two (c .before .before .before .word-at .ensures) (c .before .before .kind .ensures) (c .before .match .keys4))
+node-two-requires t c κs = (omega (arith, c .before .before .before .before .before .pre .0), search of-two)
 
 node-three-requires : (t : ℕ) → node-lts.Need-three-requires (node-calls t) (node-at t) node.Post
-node-three-requires t c κs = (omega (arith, c .before .before .before .before .before .pre .0), of-three (c .before .before .before .word-at .ensures) (c .before .before .kind .ensures) (c .before .match .keys5))
+node-three-requires t c κs = (omega (arith, c .before .before .before .before .before .pre .0), search of-three)
 
 node-returns : (t : ℕ) → node-lts.Need-returns (node-calls t) (node-at t) node.Post
 node-returns t c = at-variable (c .before .before .before .before .before .before .word-at .ensures) (sym (c .before .before .before .before .before .kind .ensures) ∙ c .before .before .before .before .match .keys1) (c .before .field-a .ensures) (c .variable .ensures)
