@@ -182,7 +182,7 @@ three-three-rule-requires : (t : ℕ) → three-lts.Need-three-rule-requires (th
 three-three-rule-requires t c κs = rw (c .kind .ensures) (c .before .before .before .before .before .before .before .before .before .before .before .pre .1 .kind)
 
 three-returns : (t : ℕ) → three-lts.Need-returns (three-calls t) (three-at t) three.Post
-three-returns t c = search (at-three, arith)
+three-returns t c = at-three (c .before .before .before .before .before .before .before .before .before .before .before .before .pre .1) (c .before .kind .ensures) (c .before .before .before .before .before .before .before .child .ensures) (c .before .before .before .before .before .child2 .ensures) (c .before .before .before .child3 .ensures) (omega (arith, c .before .before .before .before .before .before .before .before .before .before .before .field-a .ensures)) (omega (arith, c .before .before .before .before .before .before .before .before .before .before .field-b .ensures)) (omega (arith, c .before .before .before .before .before .before .before .before .before .field-c .ensures)) (c .three-rule .ensures)
 
 two-child-requires : (t : ℕ) → two-lts.Need-child-requires (two-calls t) (two-at t) two.Post
 two-child-requires t c κs = (omega (arith, c .before .before .pre .0), tt)
