@@ -5,4 +5,5 @@ pub mod Same
 pub mod Simulation
 pub mod Lookup
 pub mod Sorts
+pub mod States
 pub mod Members
