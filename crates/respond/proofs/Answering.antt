@@ -31,7 +31,8 @@ use Rattle.script.specs.Tables.{Tables, over}
 use Rattle.script.proofs.RefusalLaws.{neither}
 use Rattle.file.proofs.FileLaws.{file-length, file-refusal, read-written}
 use Rattle.file.proofs.AcceptedAgain.{written-again, values-fit}
-use Rattle.specializer.specs.Making.{Stores, storesSuffice, storesAfter, numbered}
+use Rattle.residual.specs.AfterRun.{numbered}
+use Rattle.specializer.specs.Making.{Stores, storesSuffice, storesAfter}
 use Rattle.specializer.specs.declared.Reply.{Reply}
 use Rattle.specializer.specs.declared.Reply.the-variants as Reply
 use Rattle.specializer.specs.Entry.{replied, Makes}

@@ -17,7 +17,8 @@ use Rattle.lambdamix.specs.Specializing.{Answer, finished, halted, specialized,
 use Rattle.script.specs.declared.Counts.{Counts}
 use Rattle.script.specs.File.{fileBytes, scriptIn}
 use Rattle.script.specs.Tables.{Tables, over}
-use Rattle.specializer.specs.Making.{Stores, storesSuffice, annotationBy, refusalBefore, Reply, made, unmade, Made, writtenBy, afterRun, madeUnless, making}
+use Rattle.residual.specs.AfterRun.{Reply, made, unmade, Made, writtenBy, afterRun}
+use Rattle.specializer.specs.Making.{Stores, storesSuffice, annotationBy, refusalBefore, madeUnless, making}
 use Rattle.respond.specs.Response.{programFuel}
 use Rattle.respond.specs.Stages.{Held}
 use Rattle.respond.proofs.Files.{held-passes}

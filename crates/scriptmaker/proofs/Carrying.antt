@@ -15,9 +15,9 @@ use Rattle.script.specs.Tables.{Tables}
 use Rattle.script.specs.Replies as Replies
 use Rattle.script.specs.Replies.{refusalOf}
 use Rattle.annotation.specs.Checks.{checkRefusal}
+use Rattle.residual.specs.AfterRun.{Made}
 use Rattle.specializer.specs.declared.Reply.{Reply}
-use Rattle.specializer.specs.Making as Making
-use Rattle.specializer.specs.Making.{Stores, Made}
+use Rattle.specializer.specs.Making.{Stores}
 use Rattle.specializer.specs.Entry as Entry
 use Rattle.specializer.specs.Entry.{replied}
 use Rattle.printer.specs.declared.Listing.{Listing}

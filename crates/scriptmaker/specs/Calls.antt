@@ -15,8 +15,9 @@ use Rattle.script.specs.declared.Writing.the-variants as Writing
 use Rattle.script.specs.Tables.{Tables, tablesScript, readRefusal, readTables, writeRefusal, writtenOutput}
 use Rattle.script.specs.Replies.{reading, writing}
 use Rattle.annotation.specs.Checks.{checkRefusal}
-use Rattle.specializer.specs.Making as Making
-use Rattle.specializer.specs.Making.{Stores, made, unmade, making, refusalBefore, storesAfter}
+use Rattle.residual.specs.AfterRun as AfterRun
+use Rattle.residual.specs.AfterRun.{made, unmade}
+use Rattle.specializer.specs.Making.{Stores, making, refusalBefore, storesAfter}
 use Rattle.printer.specs.declared.Listing.{Listing}
 use Rattle.printer.specs.declared.Listing.the-variants as Listing
 use Rattle.printer.specs.Answers.{listed, listedOutput, tablesText, listRefusal}
@@ -52,7 +53,7 @@ checkReply none = record { number = 0; place = 0 }
 checkReply (some f) = record { number = f .number; place = f .place }
 
 -- the maker's answer; without code there are 0 nodes
-unfoldable pub makeReply : Making.Reply → MakeReply
+unfoldable pub makeReply : AfterRun.Reply → MakeReply
 makeReply (made k n) = record { number = 0; place = 0; steps = k; nodes = n }
 makeReply (unmade f k) = record { number = f .number; place = f .place; steps = k; nodes = 0 }
 

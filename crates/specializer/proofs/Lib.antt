@@ -1,12 +1,7 @@
 pub mod Inputs
 pub mod Root
-pub mod Spending
 pub mod Zeros
 pub mod Binding
-pub mod CellLaws
-pub mod CodeTrees
-pub mod Emission
-pub mod Finishing
 pub mod Refusing
 pub mod Running
 pub mod Numbers

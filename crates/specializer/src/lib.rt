@@ -1,21 +1,12 @@
 // The specializer, the paper's maker: it evaluates the static steps of a script and leaves residual code.
 pub mod before;
 pub mod clear;
-pub mod code;
-pub mod emit;
 pub mod limits;
 pub mod make;
 pub mod run;
-pub mod size;
 pub mod start;
 
 use script::Refusal;
-
-// How a run that gave code ends: with the count of its written nodes, or without a file.
-pub enum Finish {
-    Written(u16),
-    Refused(Refusal),
-}
 
 // The reply to a call: the steps and the count of written nodes of finished code; or number and place, with the steps.
 pub enum Reply {

@@ -1,0 +1,311 @@
+-- A code cell by its kind: the operators past their table; the tree that a cell stands for, one cell at a time; and the count of a
+-- tree, its own node first and then its pieces. Assumes nothing.
+use Prim.Native.Nat.{ℕ, zero, suc, _+_, _-_, _/_, _%_, _≤_, _<_}
+use mathlib.Core.Path.{_≡_, refl, sym, ap, _∙_}
+use mathlib.Core.Logic.{_⊎_, inl, inr}
+use mathlib.Core.Bool.{Bool, true, false, _&&_}
+use mathlib.Core.List.{List}
+use mathlib.Core.Option.{Option, none, some}
+use native.Mathlib.Numerals.{add-one}
+use native.Mathlib.Omega.{arith}
+use lib.IntN.{pos}
+use lib.ListN.{length, getD, List·getD-eq-default}
+use lib.Dec.{leb, leb·suc-zero, leb·suc-suc}
+use borrow.Author.Tests.{le-leb, le-ltb}
+use Rattle.lambdamix.specs.declared.Operator.the-variants.{Add}
+use Rattle.lambdamix.specs.Limits.{maxNodes, maxHeight}
+use Rattle.lambdamix.specs.Arithmetic.{operators}
+use Rattle.lambdamix.specs.Falling.{below, guarded}
+use Rattle.lambdamix.specs.Term.{applying, fixing, choosing, operating, operatorOf}
+use Rattle.lambdamix.specs.Code.{Code, Codes, lit, ref, fn, form, nilC, consC, operatorNumber}
+use Rattle.lambdamix.proofs.Falling.{falling-step, below-at}
+use Rattle.script.specs.Bytes.{signedBy, signed32}
+use Rattle.script.specs.Words.{wordValue, wordKind, wordA, wordB, wordC}
+use Rattle.residual.specs.Cells.{constant, sortOf, two, twoPieces, threePieces, codeBy, codeStep, codeAt, codeBelow, spendBy, spendLeaf, spend, spendAll, spendOne, pieces, roomOf, Spends, SpendsUnder}
+
+pub past-operators : (f : ℕ) → 6 ≤ f → 0 ≡ operatorNumber (operatorOf f)
+unfolding operatorOf operatorNumber
+past-operators f h = sym (ap operatorNumber (List·getD-eq-default operators Add {n = f} h))
+
+-- ---- the tree, one cell at a time
+
+pub code-step : (xs : List ℕ) (p : ℕ) → codeAt xs p ≡ codeBy (sortOf (wordKind (getD xs p 0))) (codeBelow xs p) (getD xs p 0)
+unfolding codeAt codeStep codeBelow
+code-step xs p = falling-step (lit (pos 0)) (codeStep xs) p
+
+pub below-there : (xs : List ℕ) (p q : ℕ) → q < p → codeBelow xs p q ≡ codeAt xs q
+unfolding codeBelow
+below-there xs p q h = below-at p (lit (pos 0)) (codeAt xs) q h
+
+pub below-none : (xs : List ℕ) (p q : ℕ) → p ≤ q → codeBelow xs p q ≡ lit (pos 0)
+unfolding codeBelow below guarded
+below-none xs p q h = rw (le-ltb q p h)
+
+-- any other kind than those of code with fields
+other-kind :
+    (k : ℕ) → (k ≡ 1 → ⊥) → (k ≡ 8 → ⊥) → ((k ≡ 9) ⊎ (k ≡ 12) → ⊥) → (k ≡ 10 → ⊥) → (k ≡ 11 → ⊥) → sortOf k ≡ constant
+unfolding sortOf
+other-kind zero f g h i j = refl
+other-kind (suc zero) f g h i j = absurd (f refl)
+other-kind (suc (suc zero)) f g h i j = refl
+other-kind (suc (suc (suc zero))) f g h i j = refl
+other-kind (suc (suc (suc (suc zero)))) f g h i j = refl
+other-kind (suc (suc (suc (suc (suc zero))))) f g h i j = refl
+other-kind (suc (suc (suc (suc (suc (suc zero)))))) f g h i j = refl
+other-kind (suc (suc (suc (suc (suc (suc (suc zero))))))) f g h i j = refl
+other-kind (suc (suc (suc (suc (suc (suc (suc (suc zero)))))))) f g h i j = absurd (g refl)
+other-kind (suc (suc (suc (suc (suc (suc (suc (suc (suc zero))))))))) f g h i j = absurd (h (inl refl))
+other-kind (suc (suc (suc (suc (suc (suc (suc (suc (suc (suc zero)))))))))) f g h i j = absurd (i refl)
+other-kind (suc (suc (suc (suc (suc (suc (suc (suc (suc (suc (suc zero))))))))))) f g h i j = absurd (j refl)
+other-kind (suc (suc (suc (suc (suc (suc (suc (suc (suc (suc (suc (suc zero)))))))))))) f g h i j = absurd (h (inr refl))
+other-kind (suc (suc (suc (suc (suc (suc (suc (suc (suc (suc (suc (suc (suc k))))))))))))) f g h i j = refl
+
+-- the cell x of kind k stands at p
+pub record Cell (xs : List ℕ) (p x k : ℕ) : Type 0 where
+  pub word : x ≡ getD xs p 0
+  pub kind : k ≡ wordKind x
+
+-- the cell at p is read as the code c
+pub record Read (xs : List ℕ) (p : ℕ) (c : Code) : Type 0 where
+  pub code : codeAt xs p ≡ c
+
+-- The code at a place, by the kind of its cell.
+module _ {xs : List ℕ} {p x k : ℕ} (s : Cell xs p x k) where
+  by-kind : {j : ℕ} → k ≡ j → codeAt xs p ≡ codeBy (sortOf j) (codeBelow xs p) x
+  by-kind g = code-step xs p ∙ rw (← s .word, ← s .kind, g)
+
+  pub is-variable : k ≡ 1 → Read xs p (ref (wordA x))
+  unfolding sortOf codeBy
+  is-variable g = record { code = by-kind g }
+
+  pub is-function : k ≡ 8 → Read xs p (fn (wordA x) (codeBelow xs p (wordC x)))
+  unfolding sortOf codeBy
+  is-function g = record { code = by-kind g }
+
+  pub is-single : k ≡ 10 → Read xs p (form fixing (consC (codeBelow xs p (wordA x)) nilC))
+  unfolding sortOf codeBy
+  is-single g = record { code = by-kind g }
+
+  pub is-triple : k ≡ 11 → Read xs p (form choosing (threePieces (codeBelow xs p) x))
+  unfolding sortOf codeBy
+  is-triple g = record { code = by-kind g }
+
+  pub is-pair : k ≡ 9 → Read xs p (form applying (twoPieces (codeBelow xs p) x))
+  unfolding sortOf codeBy
+  is-pair g = record { code = by-kind g }
+
+  pub is-operation : k ≡ 12 → Read xs p (form (operating (operatorOf (wordC x))) (twoPieces (codeBelow xs p) x))
+  unfolding sortOf codeBy
+  is-operation g = record { code = by-kind g }
+
+  pub is-constant : (k ≡ 1 → ⊥) → (k ≡ 8 → ⊥) → ((k ≡ 9) ⊎ (k ≡ 12) → ⊥) → (k ≡ 10 → ⊥) → (k ≡ 11 → ⊥) → Read xs p (lit (wordValue x))
+  unfolding codeBy
+  is-constant a b c d e = record { code = by-kind refl ∙ rw (other-kind k a b c d e) }
+
+zero-value : wordValue 0 ≡ pos 0
+unfolding wordValue signed32 signedBy
+zero-value = let e : 0 % 4294967296 ≡ 0 = omega arith in ap signed32 e
+
+-- past the end stands the constant 0
+pub past-read : {xs : List ℕ} {p : ℕ} → length xs ≤ p → Read xs p (lit (pos 0))
+unfolding sortOf codeBy wordKind
+past-read {xs} {p} h =
+    let e : 0 / 281474976710656 ≡ 0 = omega arith in
+    record { code = code-step xs p ∙ rw (List·getD-eq-default xs 0 {n = p} h, e) (ap lit zero-value) }
+
+-- ---- counting
+
+all-none : (cs : Codes) (h : ℕ) → spendAll cs none h ≡ none
+unfolding spend
+all-none nilC h = refl
+all-none (consC c cs) h = refl
+
+own-spent : (b h : ℕ) → spendLeaf 1 (suc b) (suc h) ≡ some b
+unfolding spendLeaf spendBy
+own-spent b h = rw (le-leb 1 (suc b) (omega arith), le-leb 1 (suc h) (omega arith)) (ap some (omega arith))
+
+-- k nodes are too many, or too high
+nodes-over : (k h : ℕ) → spendLeaf (suc k) 0 h ≡ none
+unfolding spendLeaf spendBy
+nodes-over k h = rw (leb·suc-zero k)
+
+height-over : (k b : ℕ) → spendLeaf (suc k) b 0 ≡ none
+unfolding spendLeaf spendBy
+height-over k b = rw (leb·suc-zero k) (go (leb (suc k) b))
+  where
+    go : (t : Bool) → spendBy (t && false) (suc k) b ≡ none
+    go true = refl
+    go false = refl
+
+lift-spent : (b h : ℕ) → spendLeaf 2 (suc b) (suc h) ≡ spendLeaf 1 b h
+unfolding spendLeaf spendBy
+lift-spent b h = rw (leb·suc-suc 1 b, leb·suc-suc 1 h) (go (leb 1 b && leb 1 h))
+  where
+    go : (t : Bool) → spendBy t 2 (suc b) ≡ spendBy t 1 b
+    go true = ap some (omega arith)
+    go false = refl
+
+-- Code counts as its own node, and then its pieces, one less high.
+spend-pieces : (c : Code) (o : Option ℕ) (h : ℕ) → spendOne c o h ≡ spendAll (pieces c) (spendOne (ref 0) o h) (h - 1)
+unfolding spend
+spend-pieces c none h = sym (all-none (pieces c) (h - 1))
+spend-pieces (ref x) (some b) h = refl
+spend-pieces (lit z) (some zero) h = rw (nodes-over 1 h, nodes-over 0 h)
+spend-pieces (lit z) (some (suc b)) zero = rw (height-over 1 (suc b), height-over 0 (suc b))
+spend-pieces (lit z) (some (suc b)) (suc h) =
+    let e : suc h - 1 ≡ h = omega arith in rw (own-spent b h, e, lift-spent b h)
+spend-pieces (fn x c) (some zero) h = rw (nodes-over 0 h)
+spend-pieces (fn x c) (some (suc b)) zero = rw (height-over 0 (suc b))
+spend-pieces (fn x c) (some (suc b)) (suc h) = let e : suc h - 1 ≡ h = omega arith in rw (own-spent b h, e)
+spend-pieces (form f cs) (some zero) h = rw (nodes-over 0 h, all-none cs (h - 1))
+spend-pieces (form f cs) (some (suc b)) zero = rw (height-over 0 (suc b), all-none cs (0 - 1))
+spend-pieces (form f cs) (some (suc b)) (suc h) = let e : suc h - 1 ≡ h = omega arith in rw (own-spent b h, e)
+
+-- ---- rooms
+
+module _ (room h : ℕ) where
+  pub no-room : room < 2 → none ≡ spendOne (ref 0) (roomOf room) h
+  unfolding spend roomOf
+  no-room l = go room l
+    where
+      go : (room : ℕ) → room < 2 → none ≡ spendOne (ref 0) (roomOf room) h
+      go zero l = refl
+      go (suc zero) l = sym (nodes-over 0 h)
+      go (suc (suc b)) l = let z : ⊥ = omega arith in absurd z
+
+  pub no-height : h ≡ 0 → none ≡ spendOne (ref 0) (roomOf room) h
+  unfolding spend roomOf
+  no-height e = rw e (go room)
+    where
+      go : (room : ℕ) → none ≡ spendOne (ref 0) (roomOf room) 0
+      go zero = refl
+      go (suc b) = sym (height-over 0 b)
+
+  pub node-left : 2 ≤ room → (h ≡ 0 → ⊥) → roomOf (room - 1) ≡ spendOne (ref 0) (roomOf room) h
+  unfolding spend roomOf
+  node-left l f = go room h l f
+    where
+      go : (room h : ℕ) → 2 ≤ room → (h ≡ 0 → ⊥) → roomOf (room - 1) ≡ spendOne (ref 0) (roomOf room) h
+      go zero h l f = let z : ⊥ = omega arith in absurd z
+      go (suc zero) h l f = let z : ⊥ = omega arith in absurd z
+      go (suc (suc b)) zero l f = absurd (f refl)
+      go (suc (suc b)) (suc h) l f = let e : suc (suc b) - 1 ≡ suc b = omega arith in rw e (sym (own-spent b h))
+
+-- ---- pieces
+
+spend-more : (c : Code) (cs : Codes) (o : Option ℕ) (h : ℕ) → spendAll (consC c cs) o h ≡ spendAll cs (spendOne c o h) h
+unfolding spend
+spend-more c cs none h = sym (all-none cs h)
+spend-more c cs (some b) h = refl
+
+-- a node where there is height for it
+node-spent : (room h : ℕ) → spendOne (ref 0) (roomOf room) (suc h) ≡ roomOf (room - 1)
+unfolding spend roomOf
+node-spent zero h = refl
+node-spent (suc zero) h = nodes-over 0 (suc h)
+node-spent (suc (suc b)) h = let e : suc (suc b) - 1 ≡ suc b = omega arith in rw e (own-spent b h)
+
+code-spent : (c : Code) (room low : ℕ) → spendOne c (roomOf room) (low + 1) ≡ spendAll (pieces c) (roomOf (room - 1)) low
+code-spent c room low =
+    let e : suc low - 1 ≡ low = omega arith in
+    rw (add-one low) (spend-pieces c (roomOf room) (suc low) ∙ rw (node-spent room low, e))
+
+-- nothing is left where there is no height
+none-flat : (c : Code) (o : Option ℕ) → spendOne c o 0 ≡ none
+unfolding spend
+none-flat c none = refl
+none-flat (lit z) (some b) = height-over 1 b
+none-flat (ref x) (some b) = height-over 0 b
+none-flat (fn x c) (some zero) = refl
+none-flat (fn x c) (some (suc b)) = refl
+none-flat (form f cs) (some zero) = refl
+none-flat (form f cs) (some (suc b)) = refl
+
+all-flat : (c : Code) (cs : Codes) (o : Option ℕ) → spendAll (consC c cs) o 0 ≡ none
+all-flat c cs o = spend-more c cs o 0 ∙ rw (none-flat c o) (all-none cs 0)
+
+-- any cell but a variable's has something under its node
+kind-flat : (k : ℕ) (self : ℕ → Code) (x : ℕ) (o : Option ℕ) → (k ≡ 1 → ⊥) → spendAll (pieces (codeBy (sortOf k) self x)) o 0 ≡ none
+unfolding sortOf codeBy
+kind-flat zero self x o f = all-flat (ref 0) nilC o
+kind-flat (suc zero) self x o f = absurd (f refl)
+kind-flat (suc (suc zero)) self x o f = all-flat (ref 0) nilC o
+kind-flat (suc (suc (suc zero))) self x o f = all-flat (ref 0) nilC o
+kind-flat (suc (suc (suc (suc zero)))) self x o f = all-flat (ref 0) nilC o
+kind-flat (suc (suc (suc (suc (suc zero))))) self x o f = all-flat (ref 0) nilC o
+kind-flat (suc (suc (suc (suc (suc (suc zero)))))) self x o f = all-flat (ref 0) nilC o
+kind-flat (suc (suc (suc (suc (suc (suc (suc zero))))))) self x o f = all-flat (ref 0) nilC o
+kind-flat (suc (suc (suc (suc (suc (suc (suc (suc zero)))))))) self x o f = all-flat (self (wordC x)) nilC o
+kind-flat (suc (suc (suc (suc (suc (suc (suc (suc (suc zero))))))))) self x o f = all-flat (self (wordA x)) (consC (self (wordB x)) nilC) o
+kind-flat (suc (suc (suc (suc (suc (suc (suc (suc (suc (suc zero)))))))))) self x o f = all-flat (self (wordA x)) nilC o
+kind-flat (suc (suc (suc (suc (suc (suc (suc (suc (suc (suc (suc zero))))))))))) self x o f = all-flat (self (wordA x)) (two (self (wordB x)) (self (wordC x))) o
+kind-flat (suc (suc (suc (suc (suc (suc (suc (suc (suc (suc (suc (suc zero)))))))))))) self x o f = all-flat (self (wordA x)) (consC (self (wordB x)) nilC) o
+kind-flat (suc (suc (suc (suc (suc (suc (suc (suc (suc (suc (suc (suc (suc k))))))))))))) self x o f = all-flat (ref 0) nilC o
+
+-- a piece: its own node, and what is under it
+module _ {xs : List ℕ} {p q room low : ℕ} where
+  pub spends-none : room < 2 → Spends xs p q room low 0
+  unfolding roomOf
+  spends-none l =
+      let e : room - 1 ≡ 0 = omega arith in
+      record { left = sym (code-spent (codeBelow xs p q) room low ∙ rw e (all-none (pieces (codeBelow xs p q)) low)) }
+
+  pub spends-lift : {r : ℕ} → p ≤ q → roomOf r ≡ spendOne (ref 0) (roomOf (room - 1)) low → Spends xs p q room low r
+  spends-lift l s = record { left = s ∙ sym (code-spent (codeBelow xs p q) room low ∙ rw (below-none xs p q l)) }
+
+  module _ (l : q < p) where
+    pub spends-variable : {x k : ℕ} → Cell xs q x k → k ≡ 1 → Spends xs p q room low (room - 1)
+    unfolding spend
+    spends-variable s g = record { left = sym (code-spent (codeBelow xs p q) room low ∙ rw (below-there xs p q l, is-variable s g .code)) }
+
+    pub spends-flat : {x k : ℕ} → Cell xs q x k → (k ≡ 1 → ⊥) → low ≡ 0 → Spends xs p q room low 0
+    unfolding roomOf
+    spends-flat {x} {k} s g z =
+        record {
+          left = sym (code-spent (codeBelow xs p q) room low ∙ rw (z, below-there xs p q l, by-kind s refl) (kind-flat k (codeBelow xs q) x (roomOf (room - 1)) g));
+        }
+
+    pub spends-under : {r : ℕ} → (low ≡ 0 → ⊥) → SpendsUnder xs q (room - 1) (low - 1) r → Spends xs p q room low r
+    spends-under f s =
+        let e : low - 1 + 1 ≡ low = omega (arith, f) in
+        record { left = rw e at (s .left) ∙ sym (code-spent (codeBelow xs p q) room low ∙ rw (below-there xs p q l)) }
+
+-- what is under a node: pieces one after the other
+pub record SpendsAll (cs : Codes) (room low r : ℕ) : Type 0 where
+  pub left : roomOf r ≡ spendAll cs (roomOf room) (low + 1)
+
+pub under-code : {xs : List ℕ} {p room low r : ℕ} {c : Code} → Read xs p c → SpendsAll (pieces c) room low r → SpendsUnder xs p room low r
+under-code e s = record { left = rw (e .code) (s .left) }
+
+-- both kinds of cells over two pieces
+pub under-two :
+    {xs : List ℕ} {p x k room low r : ℕ} → Cell xs p x k → (k ≡ 9) ⊎ (k ≡ 12) →
+    SpendsAll (twoPieces (codeBelow xs p) x) room low r → SpendsUnder xs p room low r
+under-two s (inl g) = under-code (is-pair s g)
+under-two s (inr g) = under-code (is-operation s g)
+
+pub all-nil : {room low : ℕ} → SpendsAll nilC room low room
+unfolding spend
+all-nil = record { left = refl }
+
+pub all-node : {room low r : ℕ} → roomOf r ≡ spendOne (ref 0) (roomOf room) 1 → SpendsAll (consC (ref 0) nilC) room low r
+all-node {room} {low} s = record { left = s ∙ node-spent room 0 ∙ sym (rw (add-one low) (node-spent room low)) }
+
+module _ {xs : List ℕ} {p q i room low : ℕ} (e : q ≡ i) where
+  pub all-one : {r : ℕ} → Spends xs p q room low r → SpendsAll (consC (codeBelow xs p i) nilC) room low r
+  all-one s = record { left = s .left ∙ rw e }
+
+  pub all-more : {m r : ℕ} {cs : Codes} → Spends xs p q room low m → SpendsAll cs m low r → SpendsAll (consC (codeBelow xs p i) cs) room low r
+  all-more {cs = cs} a s =
+      record { left = s .left ∙ rw (spend-more (codeBelow xs p i) cs (roomOf room) (low + 1), a .left, e) }
+
+-- ---- the code at a place, out of the most nodes and the greatest height
+
+pub whole-past : (xs : List ℕ) (p : ℕ) → length xs ≤ p → roomOf (maxNodes - 1) ≡ spend (codeAt xs p) maxNodes maxHeight
+unfolding spend spendLeaf spendBy roomOf maxNodes maxHeight
+whole-past xs p h = rw (past-read h .code)
+
+pub whole-under :
+    {xs : List ℕ} {p r : ℕ} → SpendsUnder xs p maxNodes (maxHeight - 2) r → roomOf r ≡ spend (codeAt xs p) maxNodes maxHeight
+unfolding spend roomOf maxNodes maxHeight
+whole-under {xs} {p} s = s .left ∙ sym (code-spent (codeAt xs p) (maxNodes + 1) (maxHeight - 1))

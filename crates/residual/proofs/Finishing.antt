@@ -1,0 +1,120 @@
+-- The end of a run that gave code: its file is put part behind part, and the reply and the output are those of paper 01, "26, 21".
+-- Assumes nothing.
+use Prim.Native.Nat.{ℕ, zero, suc, _+_, _*_, _-_, _≤_, _<_}
+use mathlib.Core.Path.{_≡_, refl, sym, ap, _∙_, subst}
+use mathlib.Core.Bool.{true, false}
+use mathlib.Core.List.{List, [], _++_}
+use mathlib.Core.Option.{some}
+use native.Mathlib.Omega.{arith}
+use lib.ListN.{length}
+use lib.Dec.{leb}
+use borrow.Author.Tests.{leb-true, le-leb, lt-leb}
+use Rattle.lambdamix.specs.Limits.{maxNodes, maxHeight}
+use Rattle.lambdamix.specs.Text.{ascii}
+use Rattle.lambdamix.specs.Script.{Script, nodeCount}
+use Rattle.lambdamix.specs.Code.{Code, size, codeHeight, fits, top, nodesFrom, written}
+use Rattle.lambdamix.specs.Specializing.{finished}
+use Rattle.lambdamix.proofs.Tests.{and-both}
+use Rattle.lambdamix.proofs.WrittenTree.{top-last, written-size}
+use Rattle.script.specs.Bytes.{bytes16}
+use Rattle.script.specs.File.{headBytes, inputBytes, nodeBytes, records, numbered, fileBytes, fileLength, nodeOffset}
+use Rattle.file.specs.Written.{Put, headRow}
+use Rattle.file.proofs.RecordLaws.{numbered-length, records-length}
+use Rattle.file.proofs.Layouts.{inputLayout}
+use Rattle.file.proofs.FileLaws.{file-length}
+use Rattle.file.proofs.WritingLaws.{put-both, put-same, put-over}
+use Rattle.residual.specs.declared.Finish.the-variants as Finish
+use Rattle.residual.specs.Cells.{spend, spendOne, roomOf}
+use Rattle.residual.specs.AfterRun.{writtenBy, afterRun}
+use Rattle.residual.specs.Answers.{replyOf, outcome}
+use Rattle.residual.proofs.Spending.{Spent, left, spent, spend-fits, spend-size}
+
+-- ---- counts
+
+nodes-count : (c : Code) → length (nodesFrom 0 c) ≡ size c
+unfolding nodeCount written
+nodes-count c = written-size (record { types = []; inputs = []; nodes = [] }) c
+
+pub top-count : {n r : ℕ} (c : Code) → n ≡ size c → r ≡ top 0 c → r + 1 ≡ n
+top-count c e f = omega (arith, top-last c 0, nodes-count c)
+
+-- the last node's number is below the count of nodes
+pub top-low : {n : ℕ} (c : Code) → n ≡ size c → n ≤ maxNodes → top 0 c < maxNodes
+top-low c e h = omega (arith, top-last c 0, nodes-count c)
+
+pub fits-small : {n : ℕ} (c : Code) → n ≡ size c → fits c ≡ true → n ≤ maxNodes
+unfolding fits
+fits-small c e h =
+    omega (arith, leb-true (size c) maxNodes (and-both (leb (size c) maxNodes) (leb (codeHeight c) maxHeight) h .0))
+
+-- what the count of code leaves tells whether it fits a file, and its nodes
+module _ (room : ℕ) (c : Code) (e : roomOf room ≡ spend c maxNodes maxHeight) where
+  pub room-over : room ≡ 0 → fits c ≡ false
+  unfolding roomOf
+  room-over z = spend-fits c (sym e ∙ ap roomOf z)
+
+  room-left : (room ≡ 0 → ⊥) → spend c maxNodes maxHeight ≡ some (room - 1)
+  unfolding roomOf
+  room-left f = sym e ∙ go room f
+    where
+      go : (n : ℕ) → (n ≡ 0 → ⊥) → roomOf n ≡ some (n - 1)
+      go zero g = absurd (g refl)
+      go (suc b) g = ap some (omega arith)
+
+  pub room-size : (room ≡ 0 → ⊥) → size c + room ≡ maxNodes + 1
+  room-size f = go (subst (Spent (size c) (codeHeight c) maxNodes maxHeight) (room-left f) (spent c maxNodes maxHeight))
+    where
+      go : Spent (size c) (codeHeight c) maxNodes maxHeight (some (room - 1)) → size c + room ≡ maxNodes + 1
+      go (left q l) = omega (arith, q)
+
+  pub room-fits : (room ≡ 0 → ⊥) → (maxNodes + 1 - room ≡ size c) × (fits c ≡ true)
+  room-fits f = (omega (arith, room-size f), spend-size c (room - 1) (room-left f) .0)
+
+-- ---- the file
+
+module _ (s : Script) (g : ℕ → ℕ) (count : ℕ) (i : s .inputs ≡ numbered g 0 count) (c : Code) {n : ℕ} (e : n ≡ size c) where
+  inputs-count : length (s .inputs) ≡ count
+  inputs-count = ap length i ∙ numbered-length g 0 count
+
+  pub file-size : length (fileBytes (written s c)) ≡ 8 + 4 * count + 13 * n
+  unfolding written fileLength nodeOffset
+  file-size = file-length (written s c) ∙ omega (arith, inputs-count, nodes-count c)
+
+  the-head : headRow 0 count n ≡ headBytes (written s c)
+  unfolding headRow headBytes written
+  the-head =
+      λ y. ascii "HD" ++ (bytes16 0 ++ (bytes16 (sym inputs-count y) ++ bytes16 ((e ∙ sym (nodes-count c)) y)))
+
+  -- head, inputs and nodes, each put behind the other, are the file
+  pub put-written :
+      {l j k m : List ℕ} → Put l 0 (headRow 0 count n) j → Put j (8 + 6 * 0) (records inputBytes (numbered g 0 count)) k →
+      Put k (8 + 4 * count + 13 * 0) (records nodeBytes (nodesFrom 0 c)) m → Put l 0 (fileBytes (written s c)) m
+  unfolding fileBytes written headBytes records ascii bytes16
+  put-written p q r =
+      put-both (put-same the-head p) refl
+      (put-both (put-same (ap (records inputBytes) (sym i)) q) (omega (arith, records-length inputLayout (s .inputs), inputs-count)) r)
+
+  -- ---- the replies
+
+  module _ (k : ℕ) (f : fits c ≡ true) {before : List ℕ} where
+    pub finish-written :
+        {after : List ℕ} → 8 + 4 * count + 13 * n ≤ length before → Put before 0 (fileBytes (written s c)) after →
+        outcome (Finish.Written n) k after ≡ afterRun s (finished c k) before
+    unfolding replyOf afterRun writtenBy
+    finish-written h p =
+        let l : length (fileBytes (written s c)) ≤ length before = omega (arith, file-size) in
+        rw (f, le-leb (length (fileBytes (written s c))) (length before) l, e, put-over p l)
+
+    pub finish-short :
+        length before < 8 + 4 * count + 13 * n →
+        outcome (Finish.Refused (record { number = 21; place = 0 })) k before ≡ afterRun s (finished c k) before
+    unfolding replyOf afterRun writtenBy
+    finish-short h =
+        let l : length before < length (fileBytes (written s c)) = omega (arith, file-size) in
+        rw (f, lt-leb (length (fileBytes (written s c))) (length before) l)
+
+pub finish-unfit :
+    (s : Script) (c : Code) (k : ℕ) {before : List ℕ} → fits c ≡ false →
+    outcome (Finish.Refused (record { number = 26; place = 0 })) k before ≡ afterRun s (finished c k) before
+unfolding replyOf afterRun writtenBy
+finish-unfit s c k f = rw f

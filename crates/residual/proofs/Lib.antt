@@ -1,0 +1,5 @@
+pub mod CellLaws
+pub mod CodeTrees
+pub mod Spending
+pub mod Emission
+pub mod Finishing

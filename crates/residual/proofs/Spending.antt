@@ -1,0 +1,85 @@
+-- Counting the written nodes of code with an early end is right: something is left exactly where the tree has no more nodes and
+-- is no higher than allowed, and then it is what the nodes leave. Assumes nothing.
+use Prim.Native.Nat.{ℕ, zero, suc, _+_, _-_, _≤_, max}
+use mathlib.Core.Path.{_≡_, refl, subst}
+use mathlib.Core.Bool.{Bool, true, false, _&&_}
+use mathlib.Core.Option.{Option, none, some}
+use native.Mathlib.Omega.{arith}
+use lib.Dec.{leb}
+use borrow.Author.Tests.{leb-true, leb-false, le-leb}
+use Rattle.lambdamix.specs.Limits.{maxNodes, maxHeight}
+use Rattle.lambdamix.specs.Code.{Code, lit, ref, fn, form, Codes, nilC, consC, size, sizes, codeHeight, codeHeights, fits}
+use Rattle.residual.specs.Cells.{spendBy, spendLeaf, spend, spendAll}
+
+-- r is what is left of b after k nodes, of which there are enough, at most h high; or there are not
+pub data Spent (k t b h : ℕ) : Option ℕ → Type 0 where
+  left : {r : ℕ} → k + r ≡ b → t ≤ h → Spent k t b h (some r)
+  over : (k ≤ b → t ≤ h → ⊥) → Spent k t b h none
+
+leaf-spent : (k b h : ℕ) → Spent k k b h (spendLeaf k b h)
+unfolding spendLeaf spendBy
+leaf-spent k b h = go (leb k b) (leb k h) refl refl
+  where
+    go : (p q : Bool) → leb k b ≡ p → leb k h ≡ q → Spent k k b h (spendBy (p && q) k b)
+    go true true e f = left {r = b - k} (omega (arith, leb-true k b e)) (leb-true k h f)
+    go true false e f = over (λ x y. omega (arith, leb-false k h f))
+    go false q e f = over (λ x y. omega (arith, leb-false k b e))
+
+-- one node more, over a tree that is one less high
+up : {k t b h : ℕ} {r : Option ℕ} → Spent k t b h r → Spent (suc k) (suc t) (suc b) (suc h) r
+up (left {r} e l) = left {r = r} (omega arith) (omega arith)
+up (over f) = over (λ x y. f (omega arith) (omega arith))
+
+together :
+    {k t b h : ℕ} {r : Option ℕ} (cs : Codes) → Spent k t b h r →
+    ((r : ℕ) → Spent (sizes cs) (codeHeights cs) r h (spendAll cs (some r) h)) →
+    Spent (k + sizes cs) (max t (codeHeights cs)) b h (spendAll cs r h)
+unfolding spend
+together {k} {t} {b} {h} cs (left {r} e l) f = go (f r)
+  where
+    go : {o : Option ℕ} → Spent (sizes cs) (codeHeights cs) r h o → Spent (k + sizes cs) (max t (codeHeights cs)) b h o
+    go (left {r = q} e' l') = left {r = q} (omega arith) (omega arith)
+    go (over g) = over (λ x y. g (omega arith) (omega arith))
+together nilC (over g) f = over (λ x y. g (omega arith) (omega arith))
+together (consC c cs) (over g) f = over (λ x y. g (omega arith) (omega arith))
+
+mutual
+  unfolding spend size codeHeight
+
+  pub spent : (c : Code) (b h : ℕ) → Spent (size c) (codeHeight c) b h (spend c b h)
+  spent (lit z) b h = leaf-spent 2 b h
+  spent (ref x) b h = leaf-spent 1 b h
+  spent (fn x c) zero h = over (λ p q. omega arith)
+  spent (fn x c) (suc b) zero = over (λ p q. omega arith)
+  spent (fn x c) (suc b) (suc h) = up (spent c b h)
+  spent (form f cs) zero h = over (λ p q. omega arith)
+  spent (form f cs) (suc b) zero = over (λ p q. omega arith)
+  spent (form f cs) (suc b) (suc h) = up (all-spent cs b h)
+
+  all-spent : (cs : Codes) (b h : ℕ) → Spent (sizes cs) (codeHeights cs) b h (spendAll cs (some b) h)
+  all-spent nilC b h = left {r = b} (omega arith) (omega arith)
+  all-spent (consC c cs) b h = together cs (spent c b h) (λ r. all-spent cs r h)
+
+-- Code fits a file exactly where something is left of the most nodes and the greatest height; what is left tells its nodes.
+pub spend-fits : (c : Code) → spend c maxNodes maxHeight ≡ none → fits c ≡ false
+unfolding fits
+spend-fits c e = go (subst (Spent (size c) (codeHeight c) maxNodes maxHeight) e (spent c maxNodes maxHeight))
+  where
+    both : (a b : Bool) → leb (size c) maxNodes ≡ a → leb (codeHeight c) maxHeight ≡ b → (a ≡ true → b ≡ true → ⊥) → (a && b) ≡ false
+    both true true p q f = absurd (f refl refl)
+    both true false p q f = refl
+    both false b p q f = refl
+
+    go : Spent (size c) (codeHeight c) maxNodes maxHeight none → (leb (size c) maxNodes && leb (codeHeight c) maxHeight) ≡ false
+    go (over f) =
+        both (leb (size c) maxNodes) (leb (codeHeight c) maxHeight) refl refl
+        (λ p q. f (leb-true (size c) maxNodes p) (leb-true (codeHeight c) maxHeight q))
+
+pub spend-size : (c : Code) (r : ℕ) → spend c maxNodes maxHeight ≡ some r → (fits c ≡ true) × (size c ≡ maxNodes - r)
+unfolding fits
+spend-size c r e = go (subst (Spent (size c) (codeHeight c) maxNodes maxHeight) e (spent c maxNodes maxHeight))
+  where
+    go :
+        Spent (size c) (codeHeight c) maxNodes maxHeight (some r) →
+        ((leb (size c) maxNodes && leb (codeHeight c) maxHeight) ≡ true) × (size c ≡ maxNodes - r)
+    go (left e l) = (rw (le-leb (size c) maxNodes (omega arith), le-leb (codeHeight c) maxHeight l), omega arith)

@@ -1,0 +1,26 @@
+-- `residual::size::spend` meets its contract: past the end stands a constant, else the root's node is counted. Assumes nothing.
+use borrow.Author.Needs.{needs}
+use Rattle.lambdamix.specs.Limits.{maxNodes, maxHeight}
+use Rattle.residual.proofs.CellLaws.{whole-past, whole-under}
+use Rattle.residual.proofs.size.spend.Statement.{statement}
+use Rattle.residual.proofs.size.spend.Tie as tie
+
+returns : tie.Need-returns
+unfolding maxNodes
+returns c = whole-past (c .before .before .args .codes .now) (c .before .before .args .p) (c .if1 .taken)
+
+returns-2 : tie.Need-returns-2
+unfolding maxNodes maxHeight
+returns-2 c = whole-under (c .spend-pieces .ensures)
+
+pub spend-spec : {M : Type 1} → statement M
+spend-spec =
+    tie.close
+    (tie.spec
+    (λ c. search needs)
+    returns
+    (λ c. search needs)
+    (λ c. search needs)
+    (λ c. search needs)
+    (λ c κs. search needs)
+    returns-2)
