@@ -1,8 +1,8 @@
 -- A script that is held is answered as the calculus says: by what the maker told, or by its file, which is read as it was written.
 -- Assumes nothing.
-use Prim.Native.Nat.{ℕ, _+_, _≤_}
+use Prim.Native.Nat.{ℕ, _≤_}
 use mathlib.Core.Path.{_≡_, sym, ap, _∙_}
-use mathlib.Core.Bool.{true, false}
+use mathlib.Core.Bool.{true}
 use mathlib.Core.List.{List, _++_, append-assoc}
 use mathlib.Core.Option.{Option, none}
 use native.Mathlib.Omega.{arith}
@@ -32,17 +32,15 @@ use Rattle.script.proofs.RefusalLaws.{neither}
 use Rattle.file.proofs.FileLaws.{file-length, file-refusal, read-written}
 use Rattle.file.proofs.AcceptedAgain.{written-again, values-fit}
 use Rattle.residual.specs.AfterRun.{numbered}
-use Rattle.specializer.specs.Making.{Stores, storesSuffice, storesAfter}
 use Rattle.specializer.specs.declared.Reply.{Reply}
 use Rattle.specializer.specs.declared.Reply.the-variants as Reply
-use Rattle.specializer.specs.Entry.{replied, Makes}
+use Rattle.specializer.specs.Entry.{replied}
 use Rattle.respond.specs.Response.{programFuel, maxBytes, wholeSettings, settingsReply, unmadeText, replyText}
 use Rattle.respond.specs.Given.{givenSettings}
-use Rattle.respond.specs.Answers.{laterRefusal}
-use Rattle.respond.specs.Stages.{Prints, countsText, PrintsMade, Held, AnswersScript}
+use Rattle.respond.specs.Stages.{Prints, countsText, PrintsMade, Held, MakesGiven, AnswersScript}
 use Rattle.respond.proofs.Files.{script-counts, script-passes, few-inputs}
-use Rattle.respond.proofs.GivenSettings.{given-refusal, given-reply, settings-fit}
-use Rattle.respond.proofs.Making.{before-is, making-is, made-told, unmade-told}
+use Rattle.respond.proofs.GivenSettings.{given-reply, settings-fit}
+use Rattle.respond.proofs.Making.{making-is, made-told, unmade-told}
 
 -- ---- the file of code that fits
 
@@ -75,60 +73,40 @@ made-text s c k =
     regroup : (a b c d e f : List ℕ) → ((((a ++ b) ++ c) ++ d) ++ e) ++ f ≡ a ++ (b ++ (c ++ (d ++ (e ++ f))))
     regroup a b c d e f = simp append-assoc
 
-module _ {n : Counts} {x : Tables} (rest : List ℕ) {file made : List ℕ} {before after : Stores} where
-  module _ {reply : Reply} (m : Makes false n x (givenSettings rest) programFuel before after file made reply)
-      (bs : List ℕ) (h : Held bs n x) (enough : storesSuffice programFuel before ≡ true) where
-    abbrev script : Script
-    script = scriptIn bs
-
-    few : length (script .inputs) ≤ maxInputs
-    few = few-inputs bs (h .read)
-
-    later : orElse (annotationRefusal script) (callRefusal script (givenSettings rest) programFuel) ≡ laterRefusal script rest
-    unfolding laterRefusal
-    later = ap (orElse (annotationRefusal script)) (given-refusal script few rest)
-
-    stores-left : after ≡ storesAfter (laterRefusal script rest) before
-    stores-left =
-        m .stored ∙ ap (λ f. storesAfter f before) (before-is h (givenSettings rest) before enough ∙ later)
-
-    reply-is :
-        unlessRefused (orElse (annotationRefusal script) (callRefusal script (givenSettings rest) programFuel))
-        (answerReply (specialized script (givenSettings rest) programFuel))
-        ≡ settingsReply (wholeSettings rest) script rest
-    unfolding make
-    reply-is = given-reply script few rest
+module _ {n : Counts} {x : Tables} (rest : List ℕ) {file made : List ℕ} {reply : Reply} (m : MakesGiven n x rest file made reply) where
+  reply-is :
+      (bs : List ℕ) → Held bs n x →
+      unlessRefused (orElse (annotationRefusal (scriptIn bs)) (callRefusal (scriptIn bs) (givenSettings rest) programFuel))
+      (answerReply (specialized (scriptIn bs) (givenSettings rest) programFuel))
+      ≡ settingsReply (wholeSettings rest) (scriptIn bs) rest
+  unfolding make
+  reply-is bs h = given-reply (scriptIn bs) (few-inputs bs (h .read)) rest
 
   -- the maker told number and place
   pub answered-unmade :
-      {f : Told.Refusal} {k r : ℕ} {out printed : List ℕ} {reply : Reply} → Makes false n x (givenSettings rest) programFuel before after file made reply →
-      reply ≡ Reply.Unmade f k → Prints (unmadeText (ltb (f .number) 20) (f .number) (f .place)) out printed r →
-      AnswersScript n rest x before after file out printed r
+      {f : Told.Refusal} {k r : ℕ} {out printed : List ℕ} → maxBytes ≤ length file → reply ≡ Reply.Unmade f k →
+      Prints (unmadeText (ltb (f .number) 20) (f .number) (f .place)) out printed r → AnswersScript n x rest out printed r
   unfolding replied replyText
-  answered-unmade {f} {k} m q p = record {
-    answers = λ bs h all enough wide long.
+  answered-unmade {f} {k} wide q p = record {
+    answers = λ bs h all long.
         let told =
         unmade-told (scriptIn bs) (givenSettings rest) file made
-        (λ c e. le-leb (length (fileBytes (written (scriptIn bs) c))) (length file) (omega (arith, made-room (scriptIn bs) (few m bs h enough) c e)))
+        (λ c e. le-leb (length (fileBytes (written (scriptIn bs) c))) (length file) (omega (arith, made-room (scriptIn bs) (few-inputs bs (h .read)) c e)))
         _ (numbered (f .number) (f .place)) k
-        ((rw q at (m .gives)) ∙ making-is h (givenSettings rest) before enough file) in
-        record {
-          prints = rw (sym (reply-is m bs h enough) ∙ told) p;
-          stores = stores-left m bs h enough;
-        };
+        ((rw q at (m .gives)) ∙ making-is h (givenSettings rest) (m .stores) (m .enough) file) in
+        rw (sym (reply-is bs h) ∙ told) p;
   }
 
   -- the maker wrote a file
   pub answered-made :
-      {k l r : ℕ} {out printed : List ℕ} {reply : Reply} → Makes false n x (givenSettings rest) programFuel before after file made reply →
-      reply ≡ Reply.Made k l → PrintsMade (n .inputs) k l made x out printed r →
-      AnswersScript n rest x before after file out printed r
+      {k l r : ℕ} {out printed : List ℕ} → reply ≡ Reply.Made k l → PrintsMade (n .inputs) k l made out printed r →
+      AnswersScript n x rest out printed r
   unfolding replied headCounts programFuel maxFuel
-  answered-made {k} {l} m q p = record {
-    answers = λ bs h all enough wide long.
+  answered-made {k} {l} q p = record {
+    answers = λ bs h all long.
         let s : Script = scriptIn bs in
         let zs : List ℤ = givenSettings rest in
-        let t = made-told s zs file made _ k l ((rw q at (m .gives)) ∙ making-is h zs before enough file) in
+        let t = made-told s zs file made _ k l ((rw q at (m .gives)) ∙ making-is h zs (m .stores) (m .enough) file) in
         let c : Code = t .code in
         let annotated : annotationRefusal s ≡ none = neither _ _ (t .free) .0 in
         let (fit, passes, again) =
@@ -141,11 +119,9 @@ module _ {n : Counts} {x : Tables} (rest : List ℕ) {file made : List ℕ} {bef
         ∙ ap (λ (w : Script). countsText k l ++ listing w) same
         ∙ ap (λ (j : ℕ). countsText k j ++ listing (written s c)) (t .nodes)
         ∙ made-text s c k in
-        let finish : Calculus.made c k ≡ settingsReply (wholeSettings rest) s rest = finished-reply bs h c (t .free) (t .run) (t .fitting) enough in
-        record {
-          prints = rw (← finish, ← text) (p .prints (rw part read) (h .room) long);
-          stores = stores-left m bs h enough;
-        };
+        let finish : Calculus.made c k ≡ settingsReply (wholeSettings rest) s rest =
+        sym (done-reply s zs (t .free) (t .run) (t .fitting)) ∙ reply-is bs h in
+        rw (← finish, ← text) (p .prints (rw part read) long);
   }
     where
       file-part :
@@ -154,10 +130,3 @@ module _ {n : Counts} {x : Tables} (rest : List ℕ) {file made : List ℕ} {bef
       file-part bs h c e g =
           let i : n .inputs ≡ length (scriptIn bs .inputs) = ap (λ (m : Counts). m .inputs) (h .counts) ∙ sym (script-counts bs .1) in
           rw (g, e, i) (over-take (fileBytes (written (scriptIn bs) c)) file _ (made-length (scriptIn bs) c))
-
-      finished-reply :
-          (bs : List ℕ) → Held bs n x → (c : Code) →
-          orElse (annotationRefusal (scriptIn bs)) (callRefusal (scriptIn bs) (givenSettings rest) programFuel) ≡ none →
-          specialized (scriptIn bs) (givenSettings rest) programFuel ≡ finished c k → fits c ≡ true →
-          storesSuffice programFuel before ≡ true → Calculus.made c k ≡ settingsReply (wholeSettings rest) (scriptIn bs) rest
-      finished-reply bs h c e f g enough = sym (done-reply (scriptIn bs) (givenSettings rest) e f g) ∙ reply-is m bs h enough

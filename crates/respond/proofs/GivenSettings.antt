@@ -24,7 +24,6 @@ use Rattle.file.proofs.ByteLaws.{value-small}
 use Rattle.file.proofs.RecordLaws.{numbered-length, numbered-at}
 use Rattle.respond.specs.Response.{programFuel, programSettings, wholeSettings, settingAt, settings, settingsReply}
 use Rattle.respond.specs.Given.{givenBy, givenCount, givenSettings}
-use Rattle.respond.specs.Answers.{settingsRefusal}
 
 abbrev twelve : Option Refusal
 twelve = some (record { number = 12; place = 0 })
@@ -53,20 +52,6 @@ module _ (s : Script) (few : length (s .inputs) ≤ maxInputs) where
   many-refused : (bs : List ℕ) → programSettings ≤ length bs / 6 → callRefusal s (settings bs) programFuel ≡ twelve
   unfolding settings
   many-refused bs h = too-many (settings bs) (omega (arith, numbered-length (settingAt bs) 0 (length bs / 6)))
-
-  -- ---- the refusal of settings that are given
-
-  pub given-refusal : (bs : List ℕ) → callRefusal s (givenSettings bs) programFuel ≡ settingsRefusal (wholeSettings bs) s bs
-  unfolding givenSettings givenCount givenBy settingsRefusal settings
-  given-refusal bs = go (ltb (length bs / 6) programSettings) (wholeSettings bs) refl
-    where
-      go :
-          (f w : Bool) → ltb (length bs / 6) programSettings ≡ f →
-          callRefusal s (numbered (settingAt bs) 0 (givenBy (f && w) (length bs / 6))) programFuel ≡ settingsRefusal w s bs
-      go true true e = refl
-      go true false e = wrong-refused bs
-      go false true e = wrong-refused bs ∙ sym (many-refused bs (ltb-false (length bs / 6) programSettings e))
-      go false false e = wrong-refused bs
 
   -- ---- the reply
 

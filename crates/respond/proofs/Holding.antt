@@ -80,7 +80,7 @@ module _ {bs : List ℕ} {x y : Tables} {r : Reading} (room : longEnough maxType
   unfolding readRefusal refusedUnless orElse
   not-short e = rw (e, long-for (headTypes bs) (headInputs bs) (headNodes bs) x (file-counts bs e) room)
 
-  pub read-passes : {n : Counts} → r ≡ Reading.Read n → fileRefusal bs ≡ none
+  read-passes : {n : Counts} → r ≡ Reading.Read n → fileRefusal bs ≡ none
   unfolding readRefusal reading orElse
   read-passes {n} q = go (fileRefusal bs) refl
     where
@@ -130,14 +130,15 @@ file-bytes bs all e =
     let l = in-limits (headTypes bs) (headInputs bs) (headNodes bs) (file-counts bs e) in
     omega (arith, listing-bytes (scriptIn bs) (read-fits bs all) (script-passes bs all e), c .2, l .nodes)
 
-module _ {bs : List ℕ} {x y : Tables} {r : Reading} {at : ℕ} {before : List ℕ} (reads : Reads bs x y r) where
+module _ {bs : List ℕ} {x y : Tables} {r : Reading} {at : ℕ} {before : List ℕ}
+    (room : longEnough maxTypes maxInputs maxNodes x ≡ true) (reads : Reads bs x y r) where
   pub file-listed :
       {n : Counts} {after : List ℕ} {e : ℕ} → AllBytes bs → r ≡ Reading.Read n → ListsAt n y at before after e →
-      ListsFile bs x at before after e
+      ListsFile bs at before after e
   unfolding tablesText
   file-listed {n} all q l =
       record {
-        lists = λ passed room enough.
+        lists = λ passed enough.
             let h : Held bs n y = held room reads all q in
             let text : tablesText n y ≡ listing (scriptIn bs) = ap listing (h .script) in
             let short = file-bytes bs all passed in
@@ -147,10 +148,10 @@ module _ {bs : List ℕ} {x y : Tables} {r : Reading} {at : ℕ} {before : List 
             };
       }
 
-  pub file-never : {f : Told.Refusal} {after : List ℕ} {e : ℕ} → r ≡ Reading.Refused f → ListsFile bs x at before after e
+  pub file-never : {f : Told.Refusal} {after : List ℕ} {e : ℕ} → r ≡ Reading.Refused f → ListsFile bs at before after e
   file-never q =
       record {
-        lists = λ passed room enough.
+        lists = λ passed enough.
             let u : fileRefusal bs ≡ some _ = read-refused room reads q in
             let w : _≡_ {A = ℕ} 0 1 = cc in
             let v : ⊥ = omega arith in
@@ -160,15 +161,15 @@ module _ {bs : List ℕ} {x y : Tables} {r : Reading} {at : ℕ} {before : List 
 -- ---- the counts and the listing
 
 pub made-printed :
-    {i k n size end at r : ℕ} {file x x₁ y : List ℕ} {t : Tables} →
+    {i k n size end at r : ℕ} {file x x₁ y : List ℕ} →
     end ≡ min size (length file) → size ≡ fileLength 0 i n → length x₁ ≡ length x → CountsPlaced k n x x₁ at →
-    ListsFile (take (end - 0) (drop 0 file)) t at x₁ y r → PrintsMade i k n file t x y r
+    ListsFile (take (end - 0) (drop 0 file)) at x₁ y r → PrintsMade i k n file x y r
 unfolding linesBytes listingBytes maxBytes maxNodes
 made-printed {i} {k} {n} {file = file} e s same c l =
     let part = front-part (fileLength 0 i n) file (e ∙ ap (λ (m : ℕ). min m (length file)) s) in
     record {
-      prints = λ passed room wide.
-          let g = (rw part at l) .lists passed room (omega (arith, c .placed .counted, c .short)) in
+      prints = λ passed wide.
+          let g = (rw part at l) .lists passed (omega (arith, c .placed .counted, c .short)) in
           record {
             short = simp length-append (omega (arith, c .short, g .short));
             placed = join (c .placed) (g .placed);

@@ -31,7 +31,7 @@ or-none none = refl
 or-none (some a) = refl
 
 module _ {bs : List ℕ} {n : Counts} {x : Tables} (h : Held bs n x) (zs : List ℤ) (m : Stores) (enough : storesSuffice programFuel m ≡ true) where
-  pub before-is :
+  before-is :
       refusalBefore false (n .types) (n .inputs) (n .nodes) x zs programFuel m
       ≡ orElse (annotationRefusal (scriptIn bs)) (callRefusal (scriptIn bs) zs programFuel)
   unfolding refusalBefore annotationBy refusedUnless orElse

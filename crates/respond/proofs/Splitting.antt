@@ -17,11 +17,12 @@ use Rattle.script.specs.File.{numbered, fileLength, nodeOffset, headTypes, head
 use Rattle.script.specs.Refusals.{headMarked, countsRight, isNone}
 use Rattle.script.specs.Tables.{Tables, over}
 use Rattle.file.proofs.RecordLaws.{numbered-length}
-use Rattle.specializer.specs.Making.{Stores}
+use Rattle.specializer.specs.Making.{Stores, storesSuffice}
 use Rattle.specializer.specs.declared.Reply.{Reply}
 use Rattle.specializer.specs.Entry.{Makes}
 use Rattle.respond.specs.Response.{programFuel, programSettings, headRight, scriptLengthBy, scriptLength, wholeSettings, settingMarked, settingAt}
 use Rattle.respond.specs.Given.{givenBy, givenCount, givenSettings}
+use Rattle.respond.specs.Stages.{MakesGiven}
 
 -- a list without elements holds bytes: zeros
 pub empty-bytes : {bs : List ℕ} → length bs ≤ 0 → AllBytes bs
@@ -77,10 +78,10 @@ decoded {ws} {count} zs rest e d =
 pub makes-given :
     {n : Counts} {x : Tables} {file made : List ℕ} {ws : List ℤ} {count : ℕ} {before after : Stores} {r : Reply} →
     (zs : List ℤ) (rest : List ℕ) →
-    count ≡ givenCount rest → ws ≡ over (numbered (settingAt rest) 0 count) zs →
-    Makes false n x (take (count - 0) (drop 0 ws)) programFuel before after file made r →
-    Makes false n x (givenSettings rest) programFuel before after file made r
-makes-given zs rest e d m = rw (decoded zs rest e d) at m
+    count ≡ givenCount rest → ws ≡ over (numbered (settingAt rest) 0 count) zs → storesSuffice programFuel before ≡ true →
+    Makes false n x (take (count - 0) (drop 0 ws)) programFuel before after file made r → MakesGiven n x rest file made r
+makes-given {before = before} zs rest e d enough m =
+    record { stores = before; enough = enough; gives = (rw (decoded zs rest e d) at m) .gives }
 
 -- ---- parts of a slice
 

@@ -1,7 +1,7 @@
 -- What the stages of `respond` promise: lines and listings printed, a script answered. Assumes nothing.
 use Prim.Native.Nat.{ℕ, _+_, _*_, _≤_}
 use mathlib.Core.Path.{_≡_}
-use mathlib.Core.Bool.{Bool, true, false, _&&_}
+use mathlib.Core.Bool.{Bool, true, false}
 use mathlib.Core.List.{List, _++_}
 use mathlib.Core.Option.{none}
 use lib.ListN.{length, take}
@@ -13,18 +13,15 @@ use Rattle.script.specs.declared.Counts.{Counts}
 use Rattle.script.specs.File.{fileLength, scriptIn}
 use Rattle.script.specs.Refusals.{fileRefusal}
 use Rattle.file.specs.Heads.{headCounts}
-use Rattle.script.specs.Columns.{enough}
 use Rattle.file.specs.Encodable.{AllBytes}
 use Rattle.script.specs.Tables.{Tables, tablesScript, tablesRefusal, longEnough}
 use Rattle.printer.specs.Places.{Placed}
 use Rattle.printer.specs.Answers.{tablesText}
-use Rattle.specializer.specs.Making.{Stores, storesSuffice, storesAfter}
+use Rattle.specializer.specs.declared.Reply.{Reply}
+use Rattle.specializer.specs.Making.{Stores, storesSuffice, making}
+use Rattle.specializer.specs.Entry.{given}
 use Rattle.respond.specs.Response.{programFuel, maxBytes, wholeSettings, settingsReply, replyText, response}
-use Rattle.respond.specs.Answers.{restRoom, laterRefusal, runRefusal}
-
--- whether what is lent suffices, by its lengths
-pub record Suffices (parameters results inputs kinds a b c values settings heap codes file out : ℕ) (r : Bool) : Type 0 where
-  pub told : r ≡ (enough maxTypes maxInputs maxNodes parameters results inputs kinds a b c values && restRoom settings heap codes file out)
+use Rattle.respond.specs.Given.{givenSettings}
 
 -- a text that fits is printed
 pub record Prints (text before after : List ℕ) (r : ℕ) : Type 0 where
@@ -62,15 +59,14 @@ pub record ListedAt (s : Script) (at : ℕ) (before after : List ℕ) (r : ℕ) 
   pub short : length (listing s) ≤ listingBytes
   pub placed : Placed (listing s) at before after r
 
--- a file that passes 1 to 8 is listed from a place on, by way of tables that are long enough for every file
-pub record ListsFile (bs : List ℕ) (x : Tables) (at : ℕ) (before after : List ℕ) (r : ℕ) : Type 0 where
-  pub lists :
-      fileRefusal bs ≡ none → longEnough maxTypes maxInputs maxNodes x ≡ true → at + listingBytes ≤ length before → ListedAt (scriptIn bs) at before after r
+-- a file that passes 1 to 8 is listed from a place on
+pub record ListsFile (bs : List ℕ) (at : ℕ) (before after : List ℕ) (r : ℕ) : Type 0 where
+  pub lists : fileRefusal bs ≡ none → at + listingBytes ≤ length before → ListedAt (scriptIn bs) at before after r
 
 -- finished code is printed from the file that it was written as
-pub record PrintsMade (inputs k n : ℕ) (file : List ℕ) (x : Tables) (before after : List ℕ) (r : ℕ) : Type 0 where
+pub record PrintsMade (inputs k n : ℕ) (file before after : List ℕ) (r : ℕ) : Type 0 where
   pub prints :
-      fileRefusal (take (fileLength 0 inputs n) file) ≡ none → longEnough maxTypes maxInputs maxNodes x ≡ true → maxBytes ≤ length before →
+      fileRefusal (take (fileLength 0 inputs n) file) ≡ none → maxBytes ≤ length before →
       Prints (countsText k n ++ listing (scriptIn (take (fileLength 0 inputs n) file))) before after r
 
 -- counts and tables hold a file that passes 1 to 8, and are long enough for every file
@@ -81,21 +77,18 @@ pub record Held (bs : List ℕ) (n : Counts) (x : Tables) : Type 0 where
   pub script : tablesScript (n .types) (n .inputs) (n .nodes) x ≡ scriptIn bs
   pub room : longEnough maxTypes maxInputs maxNodes x ≡ true
 
--- what a call prints and leaves in the stores
-pub record Answered (text : List ℕ) (left after : Stores) (out printed : List ℕ) (r : ℕ) : Type 0 where
-  pub prints : Prints text out printed r
-  pub stores : after ≡ left
+-- the maker's call with the settings that follow a script, on stores that suffice
+pub record MakesGiven (n : Counts) (x : Tables) (rest file made : List ℕ) (r : Reply) : Type 0 where
+  pub stores : Stores
+  pub enough : storesSuffice programFuel stores ≡ true
+  pub gives : given r made ≡ making false (n .types) (n .inputs) (n .nodes) x (givenSettings rest) programFuel stores file
 
 -- a script that is held is answered, with what follows it
-pub record AnswersScript (n : Counts) (rest : List ℕ) (x : Tables) (before after : Stores) (file out printed : List ℕ) (r : ℕ) : Type 0 where
+pub record AnswersScript (n : Counts) (x : Tables) (rest out printed : List ℕ) (r : ℕ) : Type 0 where
   pub answers :
-      (bs : List ℕ) → Held bs n x → AllBytes rest → storesSuffice programFuel before ≡ true → maxBytes ≤ length file →
-      maxBytes ≤ length out →
-      Answered (replyText (scriptIn bs) (settingsReply (wholeSettings rest) (scriptIn bs) rest))
-      (storesAfter (laterRefusal (scriptIn bs) rest) before) after out printed r
+      (bs : List ℕ) → Held bs n x → AllBytes rest → maxBytes ≤ length out →
+      Prints (replyText (scriptIn bs) (settingsReply (wholeSettings rest) (scriptIn bs) rest)) out printed r
 
 -- an input is answered
-pub record Answers (input : List ℕ) (x : Tables) (before after : Stores) (file out printed : List ℕ) (r : ℕ) : Type 0 where
-  pub answers :
-      longEnough maxTypes maxInputs maxNodes x ≡ true → storesSuffice programFuel before ≡ true → maxBytes ≤ length file → maxBytes ≤ length out →
-      Answered (response input) (storesAfter (runRefusal input) before) after out printed r
+pub record Answers (input out printed : List ℕ) (r : ℕ) : Type 0 where
+  pub answers : maxBytes ≤ length out → Prints (response input) out printed r

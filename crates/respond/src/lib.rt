@@ -2,12 +2,11 @@
 pub mod answer;
 pub mod limits;
 mod print;
-mod room;
 mod settings;
 mod split;
 mod stage;
 
-// How many bytes were written, or that something lent is too short.
+// How many bytes were written, or that the output is too short.
 pub enum Response {
     Printed(usize),
     TooShort,

@@ -1,5 +1,9 @@
 // The stages between reading and printing: the maker with the settings behind a script, and the listing of the file that it wrote.
+use crate::limits::CODES;
 use crate::limits::FUEL;
+use crate::limits::HEAP;
+use crate::limits::MAX_BYTES;
+use crate::limits::SETTINGS;
 use crate::print::list_at;
 use crate::print::print_counts;
 use crate::print::print_unmade;
@@ -10,20 +14,17 @@ use file::reader::read;
 use printer::parts::least;
 use script::Counts;
 use script::Reading;
+use script::limits::MAX_INPUTS;
+use script::limits::MAX_NODES;
+use script::limits::MAX_TYPES;
 use specializer::Reply;
 use specializer::make::make;
-ghost use mathlib.Core.Bool.{false};
 ghost use mathlib.Core.Path.{_≡_};
-ghost use Prim.Native.Nat.{_≤_};
 ghost use Rattle.script.specs.File.{fileLength};
-ghost use lib.ListN.{length};
 ghost use Rattle.script.specs.Columns.{tablesOf};
-ghost use Rattle.specializer.specs.Entry.{stores, Makes};
-ghost use Rattle.respond.specs.Response.{programFuel, programSettings};
-ghost use Rattle.respond.specs.Given.{givenSettings};
-ghost use Rattle.respond.specs.Stages.{ListsFile, PrintsMade, AnswersScript};
+ghost use Rattle.respond.specs.Stages.{MakesGiven, ListsFile, PrintsMade, AnswersScript};
 
-// The maker on a script that was read, with the settings that follow it.
+// The maker on a script that was read, with the settings that follow it and stores that start as zeros.
 fn make_given(
     n: Counts,
     rest: &[u8],
@@ -35,17 +36,16 @@ fn make_given(
     b: &[u16],
     c: &[u16],
     values: &[i32],
-    settings: &mut [i32],
-    heap: &mut [u64],
-    codes: &mut [u64],
     file: &mut [u8],
 ) -> Reply
-    requires { ⌜ programSettings ≤ length (now settings) ⌝ }
-    ensures { λ r. ⌜ Makes false n (tablesOf (now (parameters .entry)) (now (results .entry)) (now (inputs .entry)) (now (kinds .entry)) (now (a .entry)) (now (b .entry)) (now (c .entry)) (now (values .entry))) (givenSettings (now (rest .entry))) programFuel (stores (now (heap .entry)) (now (codes .entry))) (stores (now (heap .exit)) (now (codes .exit))) (now (file .entry)) (now (file .exit)) r ⌝ }
+    ensures { λ r. ⌜ MakesGiven n (tablesOf (now (parameters .entry)) (now (results .entry)) (now (inputs .entry)) (now (kinds .entry)) (now (a .entry)) (now (b .entry)) (now (c .entry)) (now (values .entry))) (now (rest .entry)) (now (file .entry)) (now (file .exit)) r ⌝ }
 {
     let first = 0;
     let count = given_count(rest);
-    decode(rest, count, settings);
+    let mut settings = [0i32; SETTINGS];
+    decode(rest, count, &mut settings);
+    let mut heap = [0u64; HEAP];
+    let mut codes = [0u64; CODES];
     make(
         n,
         parameters,
@@ -58,41 +58,47 @@ fn make_given(
         values,
         &settings[first..count],
         FUEL as u32,
-        heap,
-        codes,
+        &mut heap,
+        &mut codes,
         file,
     )
 }
 
-// The listing of a script file from a place of the output on.
-fn list_file(
-    file: &[u8],
-    parameters: &mut [u16],
-    results: &mut [u16],
-    inputs: &mut [u16],
-    kinds: &mut [u8],
-    a: &mut [u16],
-    b: &mut [u16],
-    c: &mut [u16],
-    values: &mut [i32],
-    out: &mut [u8],
-    at: usize,
-) -> usize
-    ensures { λ r. ⌜ ListsFile (now (file .entry)) (tablesOf (now (parameters .entry)) (now (results .entry)) (now (inputs .entry)) (now (kinds .entry)) (now (a .entry)) (now (b .entry)) (now (c .entry)) (now (values .entry))) at (now (out .entry)) (now (out .exit)) r ⌝ }
+// The listing of a script file from a place of the output on, by way of tables that start as zeros.
+fn list_file(file: &[u8], out: &mut [u8], at: usize) -> usize
+    ensures { λ r. ⌜ ListsFile (now (file .entry)) at (now (out .entry)) (now (out .exit)) r ⌝ }
 {
     known(file);
-    match read(file, parameters, results, inputs, kinds, a, b, c, values) {
+    let mut parameters = [0u16; MAX_TYPES];
+    let mut results = [0u16; MAX_TYPES];
+    let mut inputs = [0u16; MAX_INPUTS];
+    let mut kinds = [0u8; MAX_NODES];
+    let mut a = [0u16; MAX_NODES];
+    let mut b = [0u16; MAX_NODES];
+    let mut c = [0u16; MAX_NODES];
+    let mut values = [0i32; MAX_NODES];
+    match read(
+        file,
+        &mut parameters,
+        &mut results,
+        &mut inputs,
+        &mut kinds,
+        &mut a,
+        &mut b,
+        &mut c,
+        &mut values,
+    ) {
         Reading::Refused(_) => at,
         Reading::Read(n) => list_at(
             n,
-            parameters,
-            results,
-            inputs,
-            kinds,
-            a,
-            b,
-            c,
-            values,
+            &parameters,
+            &results,
+            &inputs,
+            &kinds,
+            &a,
+            &b,
+            &c,
+            &values,
             out,
             at,
         ),
@@ -107,62 +113,32 @@ fn made_length(inputs: u16, nodes: u16) -> usize
 }
 
 // Finished code, of a count of inputs, from the file that the maker wrote.
-fn print_made(
-    input_count: u16,
-    steps: u16,
-    nodes: u16,
-    file: &[u8],
-    parameters: &mut [u16],
-    results: &mut [u16],
-    inputs: &mut [u16],
-    kinds: &mut [u8],
-    a: &mut [u16],
-    b: &mut [u16],
-    c: &mut [u16],
-    values: &mut [i32],
-    out: &mut [u8],
-) -> usize
-    ensures { λ r. ⌜ PrintsMade «input_count» steps nodes (now (file .entry)) (tablesOf (now (parameters .entry)) (now (results .entry)) (now (inputs .entry)) (now (kinds .entry)) (now (a .entry)) (now (b .entry)) (now (c .entry)) (now (values .entry))) (now (out .entry)) (now (out .exit)) r ⌝ }
+fn print_made(inputs: u16, steps: u16, nodes: u16, file: &[u8], out: &mut [u8]) -> usize
+    ensures { λ r. ⌜ PrintsMade inputs steps nodes (now (file .entry)) (now (out .entry)) (now (out .exit)) r ⌝ }
 {
     let first = 0;
-    let end = least(made_length(input_count, nodes), file.len());
+    let end = least(made_length(inputs, nodes), file.len());
     let at = print_counts(out, steps, nodes);
-    list_file(
-        &file[first..end],
-        parameters,
-        results,
-        inputs,
-        kinds,
-        a,
-        b,
-        c,
-        values,
-        out,
-        at,
-    )
+    list_file(&file[first..end], out, at)
 }
 
 // A script that was read, with what follows it.
 pub(crate) fn answer_script(
     n: Counts,
     rest: &[u8],
-    parameters: &mut [u16],
-    results: &mut [u16],
-    inputs: &mut [u16],
-    kinds: &mut [u8],
-    a: &mut [u16],
-    b: &mut [u16],
-    c: &mut [u16],
-    values: &mut [i32],
-    settings: &mut [i32],
-    heap: &mut [u64],
-    codes: &mut [u64],
-    file: &mut [u8],
+    parameters: &[u16],
+    results: &[u16],
+    inputs: &[u16],
+    kinds: &[u8],
+    a: &[u16],
+    b: &[u16],
+    c: &[u16],
+    values: &[i32],
     out: &mut [u8],
 ) -> usize
-    requires { ⌜ programSettings ≤ length (now settings) ⌝ }
-    ensures { λ r. ⌜ AnswersScript n (now (rest .entry)) (tablesOf (now (parameters .entry)) (now (results .entry)) (now (inputs .entry)) (now (kinds .entry)) (now (a .entry)) (now (b .entry)) (now (c .entry)) (now (values .entry))) (stores (now (heap .entry)) (now (codes .entry))) (stores (now (heap .exit)) (now (codes .exit))) (now (file .entry)) (now (out .entry)) (now (out .exit)) r ⌝ }
+    ensures { λ r. ⌜ AnswersScript n (tablesOf (now (parameters .entry)) (now (results .entry)) (now (inputs .entry)) (now (kinds .entry)) (now (a .entry)) (now (b .entry)) (now (c .entry)) (now (values .entry))) (now (rest .entry)) (now (out .entry)) (now (out .exit)) r ⌝ }
 {
+    let mut file = [0u8; MAX_BYTES];
     let reply = make_given(
         n,
         rest,
@@ -174,27 +150,10 @@ pub(crate) fn answer_script(
         b,
         c,
         values,
-        settings,
-        heap,
-        codes,
-        file,
+        &mut file,
     );
     match reply {
         Reply::Unmade(f, _) => print_unmade(out, f.number, f.place),
-        Reply::Made(steps, nodes) => print_made(
-            n.inputs,
-            steps,
-            nodes,
-            file,
-            parameters,
-            results,
-            inputs,
-            kinds,
-            a,
-            b,
-            c,
-            values,
-            out,
-        ),
+        Reply::Made(steps, nodes) => print_made(n.inputs, steps, nodes, &file, out),
     }
 }
