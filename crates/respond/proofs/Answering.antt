@@ -57,11 +57,21 @@ over-take : (new old : List ℕ) (j : ℕ) → length new ≡ j → take j (over
 unfolding over
 over-take new old j e = take-at new _ j e
 
+-- ---- the reply
+
 done-reply :
     (s : Script) (zs : List ℤ) {c : Code} {k : ℕ} {r : Option Refusal} → r ≡ none → specialized s zs programFuel ≡ finished c k →
     fits c ≡ true → unlessRefused r (answerReply (specialized s zs programFuel)) ≡ Calculus.made c k
 unfolding unlessRefused answerReply madeBy
 done-reply s zs e f g = rw (e, f, g)
+
+reply-is :
+    (bs rest : List ℕ) → fileRefusal bs ≡ none →
+    unlessRefused (orElse (annotationRefusal (scriptIn bs)) (callRefusal (scriptIn bs) (givenSettings rest) programFuel))
+    (answerReply (specialized (scriptIn bs) (givenSettings rest) programFuel))
+    ≡ settingsReply (wholeSettings rest) (scriptIn bs) rest
+unfolding make
+reply-is bs rest e = given-reply (scriptIn bs) (few-inputs bs e) rest
 
 -- ---- the text of finished code
 
@@ -73,15 +83,9 @@ made-text s c k =
     regroup : (a b c d e f : List ℕ) → ((((a ++ b) ++ c) ++ d) ++ e) ++ f ≡ a ++ (b ++ (c ++ (d ++ (e ++ f))))
     regroup a b c d e f = simp append-assoc
 
-module _ {n : Counts} {x : Tables} (rest : List ℕ) {file made : List ℕ} {reply : Reply} (m : MakesGiven n x rest file made reply) where
-  reply-is :
-      (bs : List ℕ) → Held bs n x →
-      unlessRefused (orElse (annotationRefusal (scriptIn bs)) (callRefusal (scriptIn bs) (givenSettings rest) programFuel))
-      (answerReply (specialized (scriptIn bs) (givenSettings rest) programFuel))
-      ≡ settingsReply (wholeSettings rest) (scriptIn bs) rest
-  unfolding make
-  reply-is bs h = given-reply (scriptIn bs) (few-inputs bs (h .read)) rest
+-- ---- a script that is held
 
+module _ {n : Counts} {x : Tables} (rest : List ℕ) {file made : List ℕ} {reply : Reply} (m : MakesGiven n x rest file made reply) where
   -- the maker told number and place
   pub answered-unmade :
       {f : Told.Refusal} {k r : ℕ} {out printed : List ℕ} → maxBytes ≤ length file → reply ≡ Reply.Unmade f k →
@@ -94,7 +98,7 @@ module _ {n : Counts} {x : Tables} (rest : List ℕ) {file made : List ℕ} {rep
         (λ c e. le-leb (length (fileBytes (written (scriptIn bs) c))) (length file) (omega (arith, made-room (scriptIn bs) (few-inputs bs (h .read)) c e)))
         _ (numbered (f .number) (f .place)) k
         ((rw q at (m .gives)) ∙ making-is h (givenSettings rest) (m .stores) (m .enough) file) in
-        rw (sym (reply-is bs h) ∙ told) p;
+        rw (sym (reply-is bs rest (h .read)) ∙ told) p;
   }
 
   -- the maker wrote a file
@@ -120,7 +124,7 @@ module _ {n : Counts} {x : Tables} (rest : List ℕ) {file made : List ℕ} {rep
         ∙ ap (λ (j : ℕ). countsText k j ++ listing (written s c)) (t .nodes)
         ∙ made-text s c k in
         let finish : Calculus.made c k ≡ settingsReply (wholeSettings rest) s rest =
-        sym (done-reply s zs (t .free) (t .run) (t .fitting)) ∙ reply-is bs h in
+        sym (done-reply s zs (t .free) (t .run) (t .fitting)) ∙ reply-is bs rest (h .read) in
         rw (← finish, ← text) (p .prints (rw part read) long);
   }
     where
