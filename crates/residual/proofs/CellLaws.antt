@@ -270,6 +270,12 @@ module _ {xs : List ℕ} {p q room low : ℕ} where
         let e : low - 1 + 1 ≡ low = omega (arith, f) in
         record { left = rw e at (s .left) ∙ sym (code-spent (codeBelow xs p q) room low ∙ rw (below-there xs p q l)) }
 
+-- the same piece once more
+pub spends-again :
+    {xs : List ℕ} {p q i room low m r : ℕ} → q ≡ i → Spends xs p q room low m →
+    ((c : Code) (h : ℕ) → roomOf m ≡ spendOne c (roomOf room) h → roomOf r ≡ spendOne c (roomOf m) h) → Spends xs p i m low r
+spends-again e s f = record { left = rw (← e) (f _ _ (s .left)) }
+
 -- what is under a node: pieces one after the other
 pub record SpendsAll (cs : Codes) (room low r : ℕ) : Type 0 where
   pub left : roomOf r ≡ spendAll cs (roomOf room) (low + 1)

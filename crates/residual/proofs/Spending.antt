@@ -1,7 +1,7 @@
 -- Counting the written nodes of code with an early end is right: something is left exactly where the tree has no more nodes and
--- is no higher than allowed, and then it is what the nodes leave. Assumes nothing.
-use Prim.Native.Nat.{ℕ, zero, suc, _+_, _-_, _≤_, max}
-use mathlib.Core.Path.{_≡_, refl, subst}
+-- is no higher than allowed, and then it is what the nodes leave; a piece that is counted twice takes as much again. Assumes nothing.
+use Prim.Native.Nat.{ℕ, zero, suc, _+_, _-_, _≤_, _<_, max}
+use mathlib.Core.Path.{_≡_, refl, subst, subst⁻¹}
 use mathlib.Core.Bool.{Bool, true, false, _&&_}
 use mathlib.Core.Option.{Option, none, some}
 use native.Mathlib.Omega.{arith}
@@ -9,7 +9,7 @@ use lib.Dec.{leb}
 use borrow.Author.Tests.{leb-true, leb-false, le-leb}
 use Rattle.lambdamix.specs.Limits.{maxNodes, maxHeight}
 use Rattle.lambdamix.specs.Code.{Code, lit, ref, fn, form, Codes, nilC, consC, size, sizes, codeHeight, codeHeights, fits}
-use Rattle.residual.specs.Cells.{spendBy, spendLeaf, spend, spendAll}
+use Rattle.residual.specs.Cells.{spendBy, spendLeaf, spend, spendAll, spendOne, roomOf}
 
 -- r is what is left of b after k nodes, of which there are enough, at most h high; or there are not
 pub data Spent (k t b h : ℕ) : Option ℕ → Type 0 where
@@ -59,6 +59,39 @@ mutual
   all-spent : (cs : Codes) (b h : ℕ) → Spent (sizes cs) (codeHeights cs) b h (spendAll cs (some b) h)
   all-spent nilC b h = left {r = b} (omega arith) (omega arith)
   all-spent (consC c cs) b h = together cs (spent c b h) (λ r. all-spent cs r h)
+
+-- ---- the same piece twice
+
+-- nothing grows
+pub no-more : (c : Code) (h room left : ℕ) → roomOf left ≡ spendOne c (roomOf room) h → left ≤ room
+unfolding spend roomOf
+no-more c h zero zero e = omega arith
+no-more c h zero (suc l) e = let z : _≡_ {A = ℕ} 0 1 = cc in absurd (omega arith)
+no-more c h (suc b) zero e = omega arith
+no-more c h (suc b) (suc l) e = go (subst⁻¹ (Spent (size c) (codeHeight c) b h) e (spent c b h))
+  where
+    go : {k t : ℕ} → Spent k t b h (some l) → suc l ≤ suc b
+    go (left e g) = omega arith
+
+-- a piece that took a room of b + 1 to l + 1 takes as much of that again
+second :
+    {k t b l h : ℕ} {o : Option ℕ} → Spent k t b h (some l) → Spent k t l h o →
+    (suc l ≤ suc b - suc l → none ≡ o) × (suc b - suc l < suc l → roomOf (suc l - (suc b - suc l)) ≡ o)
+unfolding roomOf
+second {b = b} {l = l} (left e g) (left {r} f i) = (
+  (λ x. absurd (omega arith)),
+  λ x. let q : suc l - (suc b - suc l) ≡ suc r = omega arith in rw q,
+)
+second (left e g) (over f) = ((λ x. refl), λ x. absurd (f (omega arith) g))
+
+pub again :
+    (c : Code) (h room left : ℕ) → roomOf left ≡ spendOne c (roomOf room) h →
+    (left ≤ room - left → none ≡ spendOne c (roomOf left) h)
+    × (room - left < left → roomOf (left - (room - left)) ≡ spendOne c (roomOf left) h)
+unfolding spend roomOf
+again c h room zero e = ((λ x. refl), λ x. absurd (omega arith))
+again c h zero (suc l) e = let z : _≡_ {A = ℕ} 0 1 = cc in absurd (omega arith)
+again c h (suc b) (suc l) e = second (subst⁻¹ (Spent (size c) (codeHeight c) b h) e (spent c b h)) (spent c l h)
 
 -- Code fits a file exactly where something is left of the most nodes and the greatest height; what is left tells its nodes.
 pub spend-fits : (c : Code) → spend c maxNodes maxHeight ≡ none → fits c ≡ false

@@ -4,11 +4,11 @@
 use crate::limits::MAX_HEIGHT;
 use crate::limits::MAX_NODES;
 use script::word;
-ghost use Prim.Native.Nat.{_≤_};
+ghost use Prim.Native.Nat.{ℕ, _≤_};
 ghost use mathlib.Core.Path.{_≡_};
 ghost use lib.ListN.{length, getD};
 ghost use Rattle.lambdamix.specs.Limits.{maxNodes, maxHeight};
-ghost use Rattle.lambdamix.specs.Code.{ref};
+ghost use Rattle.lambdamix.specs.Code.{Code, ref};
 ghost use Rattle.residual.specs.Cells.{codeAt, spend, spendOne, roomOf, Spends, SpendsUnder};
 
 // One node, as a variable is.
@@ -24,7 +24,19 @@ fn spend_node(room: u16, height: u16) -> u16
     room - 1
 }
 
-// What is under the node of the cell x at p, in a height of one more than low.
+// A piece once more, which took the room to what is left: it takes as much again, if that is there.
+fn spend_again(room: u16, left: u16) -> u16
+    requires { ⌜ left ≤ room ⌝ }
+    ensures { λ r. ⌜ ((c : Code) (h : ℕ) → roomOf left ≡ spendOne c (roomOf room) h → roomOf r ≡ spendOne c (roomOf left) h) ⌝ }
+{
+    let taken = room - left;
+    if left <= taken {
+        return 0;
+    }
+    left - taken
+}
+
+// What is under the node of the cell x at p, in a height of one more than low. Of two pieces that are the same one is counted.
 fn spend_pieces(codes: &[u64], p: u16, x: u64, room: u16, low: u16) -> u16
     requires { ⌜ (p ≤ length (now codes)) × (x ≡ getD (now codes) p 0) ⌝ }
     ensures { λ r. ⌜ SpendsUnder (now (codes .entry)) p room low r ⌝ }
@@ -33,8 +45,13 @@ fn spend_pieces(codes: &[u64], p: u16, x: u64, room: u16, low: u16) -> u16
         1 => room,
         8 => spend_piece(codes, p, word::field_c(x), room, low),
         9 | 12 => {
-            let a = spend_piece(codes, p, word::field_a(x), room, low);
-            spend_piece(codes, p, word::field_b(x), a, low)
+            let i = word::field_a(x);
+            let j = word::field_b(x);
+            let a = spend_piece(codes, p, i, room, low);
+            if i == j {
+                return spend_again(room, a);
+            }
+            spend_piece(codes, p, j, a, low)
         }
         10 => spend_piece(codes, p, word::field_a(x), room, low),
         11 => {

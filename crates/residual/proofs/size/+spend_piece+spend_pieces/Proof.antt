@@ -6,7 +6,8 @@ use mathlib.Core.Path.{refl}
 use native.Mathlib.Omega.{arith}
 use borrow.Fn.Kinds.{In}
 use borrow.Fn.PlainCycle.{Measures, is, falls, and}
-use Rattle.residual.proofs.CellLaws.{is-variable, is-function, is-single, is-triple, is-constant, spends-none, spends-lift, spends-variable, spends-flat, spends-under, under-code, under-two, all-nil, all-node, all-one, all-more}
+use Rattle.residual.proofs.CellLaws.{is-variable, is-function, is-single, is-triple, is-constant, spends-none, spends-lift, spends-variable, spends-flat, spends-under, under-code, under-two, all-nil, all-node, all-one, all-more, spends-again}
+use Rattle.residual.proofs.Spending.{no-more}
 use Rattle.residual.proofs.size.spend_piece.Reads as spend-piece
 use Rattle.residual.proofs.size.spend_piece.Kinds as spend-piece-kinds
 use Rattle.residual.proofs.size.+spend_piece+spend_pieces.Lts-spend_piece as spend-piece-lts
@@ -17,6 +18,7 @@ use Rattle.script.proofs.word.field_a.Reads as field-a-reads
 use Rattle.script.proofs.word.field_b.Reads as field-b-reads
 use Rattle.script.proofs.word.field_c.Reads as field-c-reads
 use Rattle.script.proofs.word.kind.Reads as kind-reads
+use Rattle.residual.proofs.size.spend_again.Reads as spend-again-reads
 use Rattle.residual.proofs.size.spend_node.Reads as spend-node-reads
 use Rattle.residual.proofs.size.+spend_piece+spend_pieces.{statement}
 use Rattle.residual.proofs.size.+spend_piece+spend_pieces.Tie.{close}
@@ -63,6 +65,8 @@ spend-pieces-calls t = (
   field-a-reads.Learnt,
   field-b-reads.Asked,
   field-b-reads.Learnt,
+  spend-again-reads.Asked,
+  spend-again-reads.Learnt,
   spend-node-reads.Asked,
   spend-node-reads.Learnt,
 )
@@ -97,29 +101,35 @@ under-returns t c = spends-under (c .before .before .before .before .before .if2
 
 -- ---- spend_pieces
 
-variable-returns : (t : ℕ) → spend-pieces-lts.Need-returns (spend-pieces-calls t) (spend-pieces-at t) spend-pieces.Post
+variable-returns : (t : ℕ) → spend-pieces-lts.Need-returns-2 (spend-pieces-calls t) (spend-pieces-at t) spend-pieces.Post
 variable-returns t c = under-code (is-variable (record { word = c .before .before .before .pre .1 .1; kind = c .before .kind .ensures }) (c .match .keys1)) all-nil
 
-function-returns : (t : ℕ) → spend-pieces-lts.Need-returns-2 (spend-pieces-calls t) (spend-pieces-at t) spend-pieces.Post
+function-returns : (t : ℕ) → spend-pieces-lts.Need-returns-3 (spend-pieces-calls t) (spend-pieces-at t) spend-pieces.Post
 function-returns t c =
     let m = c .before .before in
     under-code (is-function (record { word = m .before .before .before .pre .1 .1; kind = m .before .kind .ensures }) (m .match .keys2))
     (all-one (c .before .field-c .ensures) (c .spend-piece .ensures))
 
-two-returns : (t : ℕ) → spend-pieces-lts.Need-returns-3 (spend-pieces-calls t) (spend-pieces-at t) spend-pieces.Post
-two-returns t c =
-    let first = c .before .before in
-    let m = first .before .before in
-    under-two (record { word = m .before .before .before .pre .1 .1; kind = m .before .kind .ensures }) (m .match .keys3)
-    (all-more (first .before .field-a .ensures) (first .spend-piece2 .ensures) (all-one (c .before .field-b .ensures) (c .spend-piece3 .ensures)))
+again-requires : (t : ℕ) → spend-pieces-lts.Need-spend-again-requires (spend-pieces-calls t) (spend-pieces-at t) spend-pieces.Post
+again-requires t c κs = no-more _ _ _ _ (c .before .spend-piece2 .ensures .left)
 
-single-returns : (t : ℕ) → spend-pieces-lts.Need-returns-4 (spend-pieces-calls t) (spend-pieces-at t) spend-pieces.Post
+again-returns : (t : ℕ) → spend-pieces-lts.Need-returns (spend-pieces-calls t) (spend-pieces-at t) spend-pieces.Post
+again-returns t c =
+    under-two (record { word = c .before .before .before .before .before .before .before .before .pre .1 .1; kind = c .before .before .before .before .before .before .kind .ensures }) (c .before .before .before .before .before .match .keys3)
+    (all-more (c .before .before .before .before .field-a .ensures) (c .before .before .spend-piece2 .ensures) (all-one (c .before .before .before .field-b .ensures) (spends-again (c .before .if1 .taken) (c .before .before .spend-piece2 .ensures) (c .spend-again .ensures))))
+
+two-returns : (t : ℕ) → spend-pieces-lts.Need-returns-4 (spend-pieces-calls t) (spend-pieces-at t) spend-pieces.Post
+two-returns t c =
+    under-two (record { word = c .before .before .before .before .before .before .before .before .pre .1 .1; kind = c .before .before .before .before .before .before .kind .ensures }) (c .before .before .before .before .before .match .keys3)
+    (all-more (c .before .before .before .before .field-a .ensures) (c .before .before .spend-piece2 .ensures) (all-one (c .before .before .before .field-b .ensures) (c .spend-piece3 .ensures)))
+
+single-returns : (t : ℕ) → spend-pieces-lts.Need-returns-5 (spend-pieces-calls t) (spend-pieces-at t) spend-pieces.Post
 single-returns t c =
     let m = c .before .before in
     under-code (is-single (record { word = m .before .before .before .pre .1 .1; kind = m .before .kind .ensures }) (m .match .keys4))
     (all-one (c .before .field-a2 .ensures) (c .spend-piece4 .ensures))
 
-three-returns : (t : ℕ) → spend-pieces-lts.Need-returns-5 (spend-pieces-calls t) (spend-pieces-at t) spend-pieces.Post
+three-returns : (t : ℕ) → spend-pieces-lts.Need-returns-6 (spend-pieces-calls t) (spend-pieces-at t) spend-pieces.Post
 three-returns t c =
     let second = c .before .before in
     let first = second .before .before in
@@ -128,7 +138,7 @@ three-returns t c =
     (all-more (first .before .field-a3 .ensures) (first .spend-piece5 .ensures)
     (all-more (second .before .field-b2 .ensures) (second .spend-piece6 .ensures) (all-one (c .before .field-c2 .ensures) (c .spend-piece7 .ensures))))
 
-constant-returns : (t : ℕ) → spend-pieces-lts.Need-returns-6 (spend-pieces-calls t) (spend-pieces-at t) spend-pieces.Post
+constant-returns : (t : ℕ) → spend-pieces-lts.Need-returns-7 (spend-pieces-calls t) (spend-pieces-at t) spend-pieces.Post
 constant-returns t c =
     let m = c .before in
     let r = m .match .rest in
@@ -160,8 +170,10 @@ pub +spend-piece+spend-pieces-spec : {M : Type 1} → statement M
     (λ c κs. search needs)
     (λ c κs. (omega arith, search needs))
     (λ c κs. search needs)
-    (λ c κs. (omega arith, search needs))
     (λ c κs. search needs)
+    (λ c κs. (omega arith, search needs))
+    (again-requires t)
+    (again-returns t)
     (λ c κs. (omega arith, search needs))
     (λ c κs. search needs)
     (λ c κs. (omega arith, search needs))
