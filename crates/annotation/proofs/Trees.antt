@@ -4,21 +4,20 @@ use Prim.Native.Nat.{ℕ, suc, _+_, _<_}
 use mathlib.Core.Path.{_≡_, refl, ap, ap₂, _∙_}
 use mathlib.Core.Bool.{true}
 use mathlib.Core.List.{List, [], _∷_}
-use native.Mathlib.Omega.{arith}
 use lib.ListN.{length, getD}
 use lib.Dec.{leb, ltb}
 use borrow.Author.Tests.{ltb-true}
 use Rattle.lambdamix.specs.declared.Use.{Use}
 use Rattle.lambdamix.specs.declared.Use.the-variants.{Nothing, Name, Binder, Child, ParameterType, Operation}
-use Rattle.lambdamix.specs.Script.{Script, Node, Row, rows, rowOf, blankRow, nodeAt, nodeCount, fields, ifChild, childFields, children}
+use Rattle.lambdamix.specs.Script.{Script, rows, rowOf, blankRow, nodeAt, nodeCount, fields, ifChild, childFields, children}
 use Rattle.lambdamix.specs.Falling.{below}
-use Rattle.lambdamix.specs.Term.{Term, consT, childAt, build, terms, treeStep, tree, blankTerm, height, heights}
+use Rattle.lambdamix.specs.Term.{Term, consT, build, terms, treeStep, tree, blankTerm, height, heights}
 use Rattle.lambdamix.specs.Types.{typeCount}
 use Rattle.lambdamix.proofs.Falling.{falling-step, below-at}
 use Rattle.lambdamix.proofs.Tests.{and-both}
 use Rattle.script.specs.Refusals.{fieldRight, fieldsRight, nodeFits}
 use Rattle.script.specs.Words.{wordKind, wordA, wordB, wordC, Holds}
-use Rattle.script.proofs.TreeForms.{All, at-all}
+use Rattle.script.proofs.TreeForms.{All, high-row, heights-gathered}
 use Rattle.annotation.specs.Walks.{Lent}
 use Rattle.annotation.proofs.Passing.{Sound}
 
@@ -47,20 +46,6 @@ below-terms : (i : ℕ) (f : ℕ → Term) (ms : List ℕ) → Below i ms → te
 unfolding terms All
 below-terms i f [] h = refl
 below-terms i f (m ∷ ms) h = ap₂ consT (below-at i blankTerm f m (h .0)) (below-terms i f ms (h .1))
-
--- a row builds a term one higher than the highest child that it uses
-abbrev HighRow : ℕ → Node → (ℕ → Term) → Row → Type 0
-HighRow i nd f r =
-    height (build (r .step) i nd (terms f (childFields (r .uses) (fields nd))))
-    ≡ suc (heights (terms f (childFields (r .uses) (fields nd))))
-
-high-rows : (i : ℕ) (nd : Node) (f : ℕ → Term) → All (HighRow i nd f) rows
-unfolding All rows build terms childAt childFields ifChild fields height heights
-high-rows i nd f = omega arith
-
-high-row : (i : ℕ) (nd : Node) (f : ℕ → Term) → HighRow i nd f (rowOf nd)
-unfolding rowOf build terms childFields height heights
-high-row i nd f = at-all (HighRow i nd f) blankRow rows refl (high-rows i nd f) (nd .kind)
 
 module _ (s : Script) (ok : Sound s) (i : ℕ) (h : i < nodeCount s) where
   fields-right : fieldsRight (length (s .types)) (length (s .inputs)) i (rowOf (nodeAt s i) .uses) (fields (nodeAt s i)) ≡ true
@@ -92,7 +77,7 @@ module _ (s : Script) (ok : Sound s) (i : ℕ) (h : i < nodeCount s) where
 
   pub tree-height : height (tree s i) ≡ suc (heights (terms (tree s) (children (nodeAt s i))))
   unfolding children
-  tree-height = ap height tree-node ∙ high-row i (nodeAt s i) (tree s)
+  tree-height = ap height tree-node ∙ high-row i (nodeAt s i) (tree s) ∙ ap suc (heights-gathered (tree s) _)
 
 -- what the word of a node tells of it
 module _ {s : Script} {words ts : List ℕ} (l : Lent s words ts) {i w : ℕ} (h : i < nodeCount s) (e : w ≡ getD words i 0) where

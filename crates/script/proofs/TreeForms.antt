@@ -13,7 +13,7 @@ use Rattle.lambdamix.specs.declared.Use.{Use}
 use Rattle.lambdamix.specs.declared.Use.the-variants.{Nothing, Name, Binder, Child, ParameterType, Operation}
 use Rattle.lambdamix.specs.Falling.{guarded, below, falling}
 use Rattle.lambdamix.specs.Script.{Script, Node, Row, rows, rowOf, blankRow, fields, ifChild, childFields, children, nodeAt}
-use Rattle.lambdamix.specs.Term.{Term, blankTerm, childAt, build, terms, treeStep, tree, height}
+use Rattle.lambdamix.specs.Term.{Term, blankTerm, childAt, build, terms, treeStep, tree, height, heights}
 use Rattle.lambdamix.specs.Structure.{lowest, unbound}
 use Rattle.lambdamix.proofs.Falling.{falling-step}
 use Rattle.script.specs.Kinds.{useOf}
@@ -34,7 +34,7 @@ at-all P d (x ∷ xs) p q zero = q .0
 at-all P d (x ∷ xs) p q (suc k) = at-all P d xs p (q .1) k
 
 -- a row builds a term whose height is told by the children that it uses
-abbrev HighRow : ℕ → Node → (ℕ → Term) → Row → Type 0
+abbrev pub HighRow : ℕ → Node → (ℕ → Term) → Row → Type 0
 HighRow i nd f r =
     height (build (r .step) i nd (terms f (childFields (r .uses) (fields nd))))
     ≡ suc (gathered max 0 (λ m. height (f m)) (childFields (r .uses) (fields nd)))
@@ -43,9 +43,15 @@ high-rows : (i : ℕ) (nd : Node) (f : ℕ → Term) → All (HighRow i nd f) ro
 unfolding All rows build terms childAt childFields ifChild fields height gathered
 high-rows i nd f = omega arith
 
-high-row : (i : ℕ) (nd : Node) (f : ℕ → Term) → HighRow i nd f (rowOf nd)
+pub high-row : (i : ℕ) (nd : Node) (f : ℕ → Term) → HighRow i nd f (rowOf nd)
 unfolding rowOf build terms childFields height gathered
 high-row i nd f = at-all (HighRow i nd f) blankRow rows refl (high-rows i nd f) (nd .kind)
+
+-- the highest of several terms
+pub heights-gathered : (f : ℕ → Term) (ms : List ℕ) → gathered max 0 (λ m. height (f m)) ms ≡ heights (terms f ms)
+unfolding terms heights gathered
+heights-gathered f [] = refl
+heights-gathered f (m ∷ ms) = ap (max (height (f m))) (heights-gathered f ms)
 
 -- a row builds a term whose unbound variables are its own or those of the children that it uses
 abbrev ScopedRow : ℕ → List ℕ → ℕ → Node → (ℕ → Term) → Row → Type 0
