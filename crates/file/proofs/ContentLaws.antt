@@ -112,12 +112,12 @@ value-zero f e = sym (zero-bits f) ∙ eq-eqb _ _ e
 pub value-other : {v : ℤ} → SFits w32 v → (ofZ w32 v ≡ 0 → ⊥) → eqZ v (pos 0) ≡ false
 value-other f e = sym (zero-bits f) ∙ ne-eqb _ 0 e
 
--- a node as a column's reads tell it
-pub node-read : (t n j : ℕ) (f : ℕ → Node) {k a b c : ℕ} {v : ℤ}
-    → k ≡ f j .kind → a ≡ f j .a → b ≡ f j .b → c ≡ f j .c → v ≡ f j .value
-    → nodeFits t n (λ j. nodeOf k a b c v) j ≡ nodeFits t n f j
+-- what is told of a node as its columns' reads give it
+pub node-told : (t n j : ℕ) (f : ℕ → Node) {k a b c : ℕ} {v : ℤ} {r e : Bool}
+    → r ≡ nodeFits t n (λ j. nodeOf k a b c v) j → k ≡ f j .kind → a ≡ f j .a → b ≡ f j .b → c ≡ f j .c → v ≡ f j .value
+    → r ≡ e → nodeFits t n f j ≡ e
 unfolding nodeFits
-node-read t n j f p q r s u = simp (p, q, r, s, u)
+node-told t n j f h p q r s u g = simp (p, q, r, s, u) at (sym h) ∙ g
 
 -- ---- a type record
 

@@ -1,7 +1,8 @@
--- Tables that were filled from a file hold the file's script, and a script's tables hold the script. Assumes nothing.
+-- Tables that were filled from a file hold the file's script, and a script's tables hold the script; which tables can be filled.
+-- Assumes nothing.
 use Prim.Native.Nat.{ℕ, _+_, _*_, _<_}
-use mathlib.Core.Path.{_≡_, sym, ap, _∙_}
-use mathlib.Core.Bool.{true}
+use mathlib.Core.Path.{_≡_, refl, sym, ap, _∙_}
+use mathlib.Core.Bool.{true, false}
 use mathlib.Core.List.{List, map}
 use native.Mathlib.Omega.{arith}
 use lib.IntN.{ℤ}
@@ -16,7 +17,7 @@ use Rattle.script.specs.Bytes.{byteAt, word16, word32, signed32}
 use Rattle.script.specs.File.{numbered, typeOffset, inputOffset, nodeOffset, typeFrom, inputFrom, nodeFrom, headTypes, headInputs, headNodes, scriptIn}
 use Rattle.script.specs.Tables.{Tables, rowType, rowInput, rowNode, tablesScript, over, filled}
 use Rattle.script.specs.Columns.{tablesOf, enough}
-use Rattle.file.specs.Heads.{headCounts, FillFits}
+use Rattle.file.specs.Heads.{headCounts, scriptBy, FillFits, countedIf}
 use Rattle.file.proofs.Numbered.{length-numbered, row-at, numbered-same, map-numbered}
 
 -- ---- filled tables hold the script that filled them
@@ -84,41 +85,28 @@ file-held bs x =
 
 -- ---- eight columns, each filled from a file, are the tables filled with its script
 
-column-filled : {A B : Type 0} (h : A → B) (f : ℕ → A) (g : ℕ → B) (n m : ℕ) (old : List B) {now : List B}
-    → n ≡ m → ((j : ℕ) → g j ≡ h (f j)) → now ≡ over (numbered g 0 n) old → now ≡ over (map h (numbered f 0 m)) old
-column-filled {B = B} h f g n m old e k p =
-    p ∙ ap (λ (xs : List B). over xs old) (ap (numbered g 0) e ∙ numbered-same g (λ i. h (f i)) 0 m (λ i l. k i) ∙ sym (map-numbered h f 0 m))
+column-filled : {A B : Type 0} (h : A → B) (f : ℕ → A) (g : ℕ → B) (n : ℕ) (old : List B) {now : List B}
+    → ((j : ℕ) → g j ≡ h (f j)) → now ≡ over (numbered g 0 n) old → now ≡ over (map h (numbered f 0 n)) old
+column-filled {B = B} h f g n old k p =
+    p ∙ ap (λ (xs : List B). over xs old) (numbered-same g (λ i. h (f i)) 0 n (λ i l. k i) ∙ sym (map-numbered h f 0 n))
 
-inputs-filled : (f g : ℕ → ℕ) (n m : ℕ) (old : List ℕ) {now : List ℕ}
-    → n ≡ m → ((j : ℕ) → g j ≡ f j) → now ≡ over (numbered g 0 n) old → now ≡ over (numbered f 0 m) old
-inputs-filled f g n m old e k p =
-    p ∙ ap (λ (xs : List ℕ). over xs old) (ap (numbered g 0) e ∙ numbered-same g f 0 m (λ i l. k i))
+inputs-filled : (f g : ℕ → ℕ) (n : ℕ) (old : List ℕ) {now : List ℕ}
+    → ((j : ℕ) → g j ≡ f j) → now ≡ over (numbered g 0 n) old → now ≡ over (numbered f 0 n) old
+inputs-filled f g n old k p = p ∙ ap (λ (xs : List ℕ). over xs old) (numbered-same g f 0 n (λ i l. k i))
 
-module _ (bs : List ℕ) {n : Counts} (e : n ≡ headCounts bs) (x : Tables) where
-  types-are : n .types ≡ headTypes bs
-  unfolding headCounts
-  types-are = ap (λ (m : Counts). m .types) e
+type-place : (f j c : ℕ) → f ≡ typeOffset 0 → f + 6 * j + c ≡ typeOffset j + c
+unfolding typeOffset
+type-place f j c p = omega arith
 
-  inputs-are : n .inputs ≡ headInputs bs
-  unfolding headCounts
-  inputs-are = ap (λ (m : Counts). m .inputs) e
+input-place : (t f j : ℕ) → f ≡ inputOffset t 0 → f + 4 * j + 2 ≡ inputOffset t j + 2
+unfolding inputOffset
+input-place t f j p = omega arith
 
-  nodes-are : n .nodes ≡ headNodes bs
-  unfolding headCounts
-  nodes-are = ap (λ (m : Counts). m .nodes) e
+node-place : (t i f j c : ℕ) → f ≡ nodeOffset t i 0 → f + 13 * j + c ≡ nodeOffset t i j + c
+unfolding nodeOffset
+node-place t i f j c p = omega arith
 
-  type-place : (f j c : ℕ) → f ≡ typeOffset 0 → f + 6 * j + c ≡ typeOffset j + c
-  unfolding typeOffset
-  type-place f j c p = omega arith
-
-  input-place : (f j : ℕ) → f ≡ inputOffset (n .types) 0 → f + 4 * j + 2 ≡ inputOffset (headTypes bs) j + 2
-  unfolding inputOffset
-  input-place f j p = omega (arith, types-are)
-
-  node-place : (f j c : ℕ) → f ≡ nodeOffset (n .types) (n .inputs) 0 → f + 13 * j + c ≡ nodeOffset (headTypes bs) (headInputs bs) j + c
-  unfolding nodeOffset
-  node-place f j c p = omega (arith, types-are, inputs-are)
-
+module _ (bs : List ℕ) (n : Counts) (x : Tables) where
   pub tables-filled : (f g h : ℕ) → f ≡ typeOffset 0 → g ≡ inputOffset (n .types) 0 → h ≡ nodeOffset (n .types) (n .inputs) 0
       → {ps rs is ks xs ys zs : List ℕ} {vs : List ℤ}
       → ps ≡ over (numbered (λ j. word16 bs (f + 6 * j + 2)) 0 (n .types)) (x .parameters)
@@ -129,28 +117,31 @@ module _ (bs : List ℕ) {n : Counts} (e : n ≡ headCounts bs) (x : Tables) whe
       → ys ≡ over (numbered (λ j. word16 bs (h + 13 * j + 5)) 0 (n .nodes)) (x .b)
       → zs ≡ over (numbered (λ j. word16 bs (h + 13 * j + 7)) 0 (n .nodes)) (x .c)
       → vs ≡ over (numbered (λ j. signed32 (word32 bs (h + 13 * j + 9))) 0 (n .nodes)) (x .values)
-      → tablesOf ps rs is ks xs ys zs vs ≡ filled (scriptIn bs) x
-  unfolding filled scriptIn typeFrom inputFrom nodeFrom
+      → tablesOf ps rs is ks xs ys zs vs ≡ filled (scriptBy n bs) x
+  unfolding filled scriptBy typeFrom inputFrom nodeFrom
   tables-filled f g h u v w p q r s a b c d =
       let types : ℕ → FunctionType = λ j. typeFrom bs (typeOffset j) in
-      let nodes : ℕ → Node = λ j. nodeFrom bs (nodeOffset (headTypes bs) (headInputs bs) j) in
+      let nodes : ℕ → Node = λ j. nodeFrom bs (nodeOffset (n .types) (n .inputs) j) in
       λ i.
       tablesOf
-      (column-filled (λ (t : FunctionType). t .parameter) types _ _ _ (x .parameters) types-are (λ j. ap (word16 bs) (type-place f j 2 u)) p i)
-      (column-filled (λ (t : FunctionType). t .result) types _ _ _ (x .results) types-are (λ j. ap (word16 bs) (type-place f j 4 u)) q i)
-      (inputs-filled (λ j. inputFrom bs (inputOffset (headTypes bs) j)) _ _ _ (x .inputs) inputs-are (λ j. ap (word16 bs) (input-place g j v)) r i)
-      (column-filled (λ (y : Node). y .kind) nodes _ _ _ (x .kinds) nodes-are (λ j. ap (byteAt bs) (node-place h j 2 w)) s i)
-      (column-filled (λ (y : Node). y .a) nodes _ _ _ (x .a) nodes-are (λ j. ap (word16 bs) (node-place h j 3 w)) a i)
-      (column-filled (λ (y : Node). y .b) nodes _ _ _ (x .b) nodes-are (λ j. ap (word16 bs) (node-place h j 5 w)) b i)
-      (column-filled (λ (y : Node). y .c) nodes _ _ _ (x .c) nodes-are (λ j. ap (word16 bs) (node-place h j 7 w)) c i)
-      (column-filled (λ (y : Node). y .value) nodes _ _ _ (x .values) nodes-are (λ j. ap (λ (k : ℕ). signed32 (word32 bs k)) (node-place h j 9 w)) d i)
+      (column-filled (λ (t : FunctionType). t .parameter) types _ _ (x .parameters) (λ j. ap (word16 bs) (type-place f j 2 u)) p i)
+      (column-filled (λ (t : FunctionType). t .result) types _ _ (x .results) (λ j. ap (word16 bs) (type-place f j 4 u)) q i)
+      (inputs-filled (λ j. inputFrom bs (inputOffset (n .types) j)) _ _ (x .inputs) (λ j. ap (word16 bs) (input-place (n .types) g j v)) r i)
+      (column-filled (λ (y : Node). y .kind) nodes _ _ (x .kinds) (λ j. ap (byteAt bs) (node-place (n .types) (n .inputs) h j 2 w)) s i)
+      (column-filled (λ (y : Node). y .a) nodes _ _ (x .a) (λ j. ap (word16 bs) (node-place (n .types) (n .inputs) h j 3 w)) a i)
+      (column-filled (λ (y : Node). y .b) nodes _ _ (x .b) (λ j. ap (word16 bs) (node-place (n .types) (n .inputs) h j 5 w)) b i)
+      (column-filled (λ (y : Node). y .c) nodes _ _ (x .c) (λ j. ap (word16 bs) (node-place (n .types) (n .inputs) h j 7 w)) c i)
+      (column-filled (λ (y : Node). y .value) nodes _ _ (x .values) (λ j. ap (λ (k : ℕ). signed32 (word32 bs k)) (node-place (n .types) (n .inputs) h j 9 w)) d i)
 
-  -- tables that are long enough can be filled
+-- ---- which tables can be filled
+
+module _ (n : Counts) (x : Tables) where
+  -- those that are long enough for the counts,
   pub fill-fits :
       enough (n .types) (n .inputs) (n .nodes) (length (x .parameters)) (length (x .results)) (length (x .inputs)) (length (x .kinds))
       (length (x .a)) (length (x .b)) (length (x .c)) (length (x .values))
       ≡ true
-      → FillFits bs n x
+      → FillFits n x
   unfolding enough
   fill-fits h =
       let p = and-both _ _ h in
@@ -161,7 +152,6 @@ module _ (bs : List ℕ) {n : Counts} (e : n ≡ headCounts bs) (x : Tables) whe
       let b = and-both _ _ (r .1) in
       let c = and-both _ _ (b .1) in
       record {
-        counts = e;
         parameters = leb-true _ _ (t .0);
         results = leb-true _ _ (t .1);
         inputs = leb-true _ _ (q .0);
@@ -171,3 +161,19 @@ module _ (bs : List ℕ) {n : Counts} (e : n ≡ headCounts bs) (x : Tables) whe
         c = leb-true _ _ (c .0);
         values = leb-true _ _ (c .1);
       }
+
+  -- and all with nothing.
+  pub none-fits : FillFits (countedIf false n) x
+  none-fits = omega arith
+
+-- ---- with what
+
+-- the head's counts give the file's script
+pub by-head : (bs : List ℕ) {n : Counts} → n ≡ headCounts bs → scriptBy n bs ≡ scriptIn bs
+unfolding headCounts scriptBy scriptIn
+by-head bs e = ap (λ (m : Counts). scriptBy m bs) e
+
+-- nothing leaves the tables as they were
+pub by-none : (bs : List ℕ) (n : Counts) (x : Tables) → filled (scriptBy (countedIf false n) bs) x ≡ x
+unfolding filled scriptBy numbered over
+by-none bs n x = refl

@@ -1,7 +1,7 @@
 -- The refusals of a file from those of its parts, and the reader's reply and tables. Assumes nothing.
 use Prim.Native.Nat.{ℕ, min, _≤_}
 use mathlib.Core.Path.{_≡_, refl, sym, ap, _∙_}
-use mathlib.Core.Bool.{Bool, true, false, _&&_, true≢false}
+use mathlib.Core.Bool.{Bool, true, false}
 use mathlib.Core.List.{List}
 use mathlib.Core.Option.{Option, none, some}
 use native.Mathlib.Omega.{arith}
@@ -10,6 +10,7 @@ use lib.ListN.{length}
 use lib.Dec.{leb}
 use Rattle.lambdamix.specs.Checker as Checker
 use Rattle.lambdamix.specs.Limits.{maxNodes}
+use Rattle.lambdamix.specs.Script.{Script}
 use Rattle.lambdamix.specs.Structure.{orElse, refusedUnless}
 use Rattle.script.specs.declared.Counts.{Counts}
 use Rattle.script.specs.declared.Refusal.{Refusal}
@@ -22,13 +23,13 @@ use Rattle.script.specs.Refusals.{headMarked, countsRight, contentOf, contentRe
 use Rattle.script.specs.Tables.{Tables, rowType, rowInput, rowNode, tablesScript, filled, longEnough, readRefusal, readTables}
 use Rattle.script.specs.Replies.{refusalOf, reading, Reads}
 use Rattle.script.specs.Columns.{tablesOf, contentIn, enough}
-use Rattle.file.specs.Heads.{headCounts, headRefusal, recordsRefusal, FillFits, FilledWhere, isPassed, filledIf, replyBy}
+use Rattle.file.specs.Heads.{headCounts, headRefusal, recordsRefusal, scriptBy, FillFits, fills, countedIf, replyBy}
 use Rattle.file.specs.PackedTables.{HoldNodes, PackedTables}
 use Rattle.script.specs.Walks.{Structured}
 use Rattle.file.proofs.ContentLaws.{in-limits}
 use Rattle.file.proofs.HeadLaws.{file-by-head}
 use Rattle.file.proofs.ScriptLaws.{content-of-tables, structure-after}
-use Rattle.file.proofs.FillLaws.{file-held}
+use Rattle.file.proofs.FillLaws.{file-held, fill-fits, none-fits, by-head, by-none}
 
 -- ---- the columns of the check
 
@@ -41,11 +42,10 @@ counts-here bs e h = ap (λ (m : Counts). countsRight (m .types) (m .inputs) (m 
 pub own-fits : (bs : List ℕ) {n : Counts} (x : Tables) → n ≡ headCounts bs → countsRight (headTypes bs) (headInputs bs) (headNodes bs) ≡ true
     → length (x .parameters) ≡ 64 → length (x .results) ≡ 64 → length (x .inputs) ≡ 16
     → length (x .kinds) ≡ 4096 → length (x .a) ≡ 4096 → length (x .b) ≡ 4096 → length (x .c) ≡ 4096 → length (x .values) ≡ 4096
-    → FillFits bs n x
+    → FillFits n x
 own-fits bs {n} x e h p r i k a b c v =
     let l = in-limits (n .types) (n .inputs) (n .nodes) (counts-here bs e h) in
     record {
-      counts = e;
       parameters = omega (arith, l .types);
       results = omega (arith, l .types);
       inputs = omega (arith, l .inputs);
@@ -114,13 +114,13 @@ module _ (bs : List ℕ) (n : Counts) (ps rs is ks xs ys zs : List ℕ) (vs : Li
 -- A file's body is refused as its records are in tables that were filled from it.
 pub body-by-records : (bs : List ℕ) {n : Counts} → n ≡ headCounts bs
     → countsRight (headTypes bs) (headInputs bs) (headNodes bs) ≡ true
-    → (x old : Tables) → x ≡ filled (scriptIn bs) old
+    → (x old : Tables) → x ≡ filled (scriptBy n bs) old
     → {r : Option Checker.Refusal} → r ≡ recordsRefusal bs n x → r ≡ bodyRefusal bs
 unfolding recordsRefusal bodyRefusal headCounts
 body-by-records bs e right x old held p = p ∙ ap (λ (m : Counts). recordsRefusal bs m x) e ∙ rw (content-is, script-is)
   where
     script-is : tablesScript (headTypes bs) (headInputs bs) (headNodes bs) x ≡ scriptIn bs
-    script-is = ap (tablesScript (headTypes bs) (headInputs bs) (headNodes bs)) held ∙ file-held bs old
+    script-is = ap (tablesScript (headTypes bs) (headInputs bs) (headNodes bs)) (held ∙ ap (λ (s : Script). filled s old) (by-head bs e)) ∙ file-held bs old
 
     content-is : contentIn (headTypes bs) (headInputs bs) (headNodes bs) x ≡ contentRefusal (scriptIn bs)
     content-is =
@@ -154,39 +154,41 @@ module _ (bs : List ℕ) {v : Verdict} where
 
 -- ---- the reader
 
--- the lengths that the code tests
-pub long-told : (bs : List ℕ) (x : Tables) {n : Counts} {r b : Bool} → n ≡ headCounts bs
-    → r ≡ enough (n .types) (n .inputs) (n .nodes) (length (x .parameters)) (length (x .results)) (length (x .inputs)) (length (x .kinds))
+-- whether columns of these lengths hold as many records as are counted
+abbrev Long : Counts → Tables → Bool → Type 0
+Long n x b =
+    b
+    ≡ enough (n .types) (n .inputs) (n .nodes) (length (x .parameters)) (length (x .results)) (length (x .inputs)) (length (x .kinds))
     (length (x .a)) (length (x .b)) (length (x .c)) (length (x .values))
-    → r ≡ b → longEnough (headTypes bs) (headInputs bs) (headNodes bs) x ≡ b
+
+long-told : (bs : List ℕ) (x : Tables) {n : Counts} {b : Bool} → n ≡ headCounts bs → Long n x b
+    → b ≡ longEnough (headTypes bs) (headInputs bs) (headNodes bs) x
 unfolding headCounts longEnough enough
-long-told bs x e p q = ap (λ (m : Counts). longEnough (m .types) (m .inputs) (m .nodes) x) (sym e) ∙ sym p ∙ q
+long-told bs x e p = p ∙ ap (λ (m : Counts). longEnough (m .types) (m .inputs) (m .nodes) x) e
 
-module _ (bs : List ℕ) (x : Tables) where
-  -- nothing is filled from a refused file, nor into short tables
-  pub where-refused : {p : Bool} → p ≡ false → FilledWhere p bs x x false
-  unfolding filledIf
-  where-refused q = record { told = rw q; tables = refl }
+-- What is counted fits: nothing, unless the tables are long enough.
+pub counted-fits : (n : Counts) (x : Tables) (v : Verdict) {long full : Bool} {m : Counts}
+    → Long n x long → full ≡ fills v long → m ≡ countedIf full n → FillFits m x
+counted-fits n x v {long} p f c = rw (c, f) (go v long p)
+  where
+    go : (v : Verdict) (long : Bool) → Long n x long → FillFits (countedIf (fills v long) n) x
+    go Verdict.Passed true p = fill-fits n x (sym p)
+    go Verdict.Passed false p = none-fits n x
+    go (Verdict.Refused g) long p = none-fits n x
 
-  pub where-short : {p : Bool} → p ≡ true → longEnough (headTypes bs) (headInputs bs) (headNodes bs) x ≡ false → FilledWhere p bs x x false
-  unfolding filledIf
-  where-short q h = record { told = rw q (sym h); tables = refl }
-
-  pub where-long : {p : Bool} {y : Tables} → p ≡ true → longEnough (headTypes bs) (headInputs bs) (headNodes bs) x ≡ true
-      → y ≡ filled (scriptIn bs) x → FilledWhere p bs x y true
-  unfolding filledIf
-  where-long q h e = record { told = rw q (sym h); tables = e }
-
-  -- The reply and the tables by the file's verdict.
-  pub reads-by : {y : Tables} (v : Verdict) {n : Counts} {p full : Bool} {r : Reading} → n ≡ headCounts bs → refusalOf v ≡ fileRefusal bs
-      → p ≡ isPassed v → FilledWhere p bs x y full → r ≡ replyBy v full n → Reads bs x y r
-  unfolding readRefusal readTables reading refusalOf filledIf refusedUnless orElse headCounts
-  reads-by {y} v {n} {p} {full} {r} e t q f a = go v full t (rw q at (f .told)) (f .tables) a
-    where
-      go : (v : Verdict) (full : Bool) → refusalOf v ≡ fileRefusal bs
-          → full ≡ (isPassed v && longEnough (headTypes bs) (headInputs bs) (headNodes bs) x) → y ≡ filledIf full bs x → r ≡ replyBy v full n
-          → Reads bs x y r
-      go Verdict.Passed true t h k a = record { reply = rw (← t, ← h) (a ∙ ap Reading.Read e); tables = rw (← t, ← h) k }
-      go Verdict.Passed false t h k a = record { reply = rw (← t, ← h) a; tables = rw (← t, ← h) k }
-      go (Verdict.Refused g) true t h k a = absurd (true≢false h)
-      go (Verdict.Refused g) false t h k a = record { reply = rw (← t) a; tables = rw (← t) k }
+-- The reply and the tables by the file's verdict.
+pub reads-by : (bs : List ℕ) (x y : Tables) (v : Verdict) {n m : Counts} {long full : Bool} {r : Reading}
+    → n ≡ headCounts bs → refusalOf v ≡ fileRefusal bs → Long n x long → full ≡ fills v long → m ≡ countedIf full n
+    → y ≡ filled (scriptBy m bs) x → r ≡ replyBy v full n → Reads bs x y r
+unfolding readRefusal readTables reading refusalOf refusedUnless orElse headCounts
+reads-by bs x y v {n} {long = long} {r = r} e t p f c h a = go v long t (long-told bs x e p) (rw (c, f) at h) (rw f at a)
+  where
+    go : (v : Verdict) (long : Bool) → refusalOf v ≡ fileRefusal bs → long ≡ longEnough (headTypes bs) (headInputs bs) (headNodes bs) x
+        → y ≡ filled (scriptBy (countedIf (fills v long) n) bs) x → r ≡ replyBy v (fills v long) n → Reads bs x y r
+    go Verdict.Passed true t p h a =
+        record {
+          reply = rw (← t, ← p) (a ∙ ap Reading.Read e);
+          tables = rw (← t, ← p) (h ∙ ap (λ (s : Script). filled s x) (by-head bs e));
+        }
+    go Verdict.Passed false t p h a = record { reply = rw (← t, ← p) a; tables = rw (← t, ← p) (h ∙ by-none bs n x) }
+    go (Verdict.Refused g) long t p h a = record { reply = rw (← t) a; tables = rw (← t) (h ∙ by-none bs n x) }

@@ -1,5 +1,5 @@
 -- The script that tables hold has the tables' rows, so the contents of either are refused alike; and where nothing of the contents
--- is refused, every node is right. Assumes nothing.
+-- is refused, every node is right; which tables are too short. Assumes nothing.
 use Prim.Native.Nat.{ℕ, min, _<_, _≤_}
 use mathlib.Core.Path.{_≡_, refl, sym, ap, ap₂, _∙_}
 use mathlib.Core.Bool.{Bool, true, false, not, _&&_}
@@ -8,7 +8,7 @@ use mathlib.Core.Option.{Option, none, some}
 use lib.IntN.{ℤ}
 use lib.ListN.{length}
 use lib.Dec.{leb}
-use borrow.Author.Tests.{leb-true}
+use borrow.Author.Tests.{leb-true, le-leb, lt-leb}
 use native.Mathlib.Omega.{arith}
 use Rattle.lambdamix.specs.Script.{FunctionType, Node, blankNode, nodeAt}
 use Rattle.lambdamix.specs.Types.{blankType}
@@ -18,7 +18,7 @@ use Rattle.lambdamix.specs.Checker.{Refusal}
 use Rattle.lambdamix.proofs.Tests.{and-both}
 use Rattle.script.specs.File.{typeOffset, inputOffset, nodeOffset}
 use Rattle.script.specs.Refusals.{typeFits, inputFits, nodeFits, otherPair, samePair, refusedRecord, countsRight, contentOf, contentRefusal, scriptRefusal}
-use Rattle.script.specs.Tables.{Tables, rowType, rowInput, rowNode, tablesScript}
+use Rattle.script.specs.Tables.{Tables, rowType, rowInput, rowNode, tablesScript, longEnough, tablesRefusal}
 use Rattle.script.specs.Columns.{tablesOf, contentIn, enough}
 use Rattle.script.specs.Words.{Packed}
 use Rattle.script.specs.Walks.{Structured}
@@ -178,3 +178,40 @@ long-holds t i n ps rs is {ks} {xs} {ys} {zs} {vs} e f =
       c = leb-true n (length zs) (w .0);
       values = leb-true n (length vs) (w .1);
     }
+
+-- the tests of the lengths, in their order
+module _ (t i n ps rs is ks xs ys zs vs : ℕ) {p : Bool} (e : p ≡ (leb t ps && leb t rs)) where
+  pub short-types : p ≡ false → false ≡ enough t i n ps rs is ks xs ys zs vs
+  unfolding enough
+  short-types f = simp (sym e ∙ f)
+
+  pub short-inputs : p ≡ true → is < i → false ≡ enough t i n ps rs is ks xs ys zs vs
+  unfolding enough
+  short-inputs f h = simp (sym e ∙ f, lt-leb i is h)
+
+  module _ (f : p ≡ true) (h : i ≤ is) {q : Bool} (g : q ≡ (leb n ks && leb n xs)) where
+    pub short-kinds : q ≡ false → false ≡ enough t i n ps rs is ks xs ys zs vs
+    unfolding enough
+    short-kinds k = simp (sym e ∙ f, le-leb i is h, sym g ∙ k)
+
+    pub short-fields : q ≡ true → ys < n → false ≡ enough t i n ps rs is ks xs ys zs vs
+    unfolding enough
+    short-fields k l = simp (sym e ∙ f, le-leb i is h, sym g ∙ k, lt-leb n ys l)
+
+    pub last-test : q ≡ true → n ≤ ys → {r : Bool} → r ≡ (leb n zs && leb n vs) → r ≡ enough t i n ps rs is ks xs ys zs vs
+    unfolding enough
+    last-test k l m = simp (sym e ∙ f, le-leb i is h, sym g ∙ k, le-leb n ys l) m
+
+-- Short tables are refused, others as their script is.
+module _ (t i n : ℕ) (x : Tables) {b : Bool}
+    (e :
+    b
+    ≡ enough t i n (length (x .parameters)) (length (x .results)) (length (x .inputs)) (length (x .kinds)) (length (x .a))
+    (length (x .b)) (length (x .c)) (length (x .values))) where
+  pub tables-short : b ≡ false → refusalOf (Verdict.Refused (record { number = 1; place = 0 })) ≡ tablesRefusal t i n x
+  unfolding tablesRefusal longEnough enough refusedUnless orElse refusalOf
+  tables-short f = rw (sym e ∙ f)
+
+  pub tables-long : b ≡ true → {r : Option Refusal} → r ≡ scriptRefusal (tablesScript t i n x) → r ≡ tablesRefusal t i n x
+  unfolding tablesRefusal longEnough enough refusedUnless orElse
+  tables-long f p = rw (sym e ∙ f) p

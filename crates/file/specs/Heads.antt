@@ -1,12 +1,12 @@
--- The parts of the reader: a head's counts and refusals, the refusals of records that stand in tables, and which tables can be
--- filled. Assumes nothing.
+-- The parts of the reader: a head's counts and refusals, the refusals of records that stand in tables, and what fills tables.
+-- Assumes nothing.
 use Prim.Native.Nat.{ℕ, _≤_}
-use mathlib.Core.Path.{_≡_}
-use mathlib.Core.Bool.{Bool, true, false, _&&_}
+use mathlib.Core.Bool.{Bool, true, false}
 use mathlib.Core.List.{List}
 use mathlib.Core.Option.{Option}
 use lib.ListN.{length}
 use lib.Dec.{leb, eqb}
+use Rattle.lambdamix.specs.Script.{Script}
 use Rattle.lambdamix.specs.Checker.{Refusal}
 use Rattle.lambdamix.specs.Structure.{orElse, structureRefusal, refusedUnless}
 use Rattle.script.specs.declared.Counts.{Counts}
@@ -14,8 +14,8 @@ use Rattle.script.specs.declared.Verdict.{Verdict}
 use Rattle.script.specs.declared.Verdict.the-variants as Verdict
 use Rattle.script.specs.declared.Reading.{Reading}
 use Rattle.script.specs.declared.Reading.the-variants as Reading
-use Rattle.script.specs.File.{fileLength, headTypes, headInputs, headNodes, scriptIn}
-use Rattle.script.specs.Tables.{Tables, tablesScript, filled, longEnough}
+use Rattle.script.specs.File.{numbered, typeOffset, inputOffset, nodeOffset, typeFrom, inputFrom, nodeFrom, fileLength, headTypes, headInputs, headNodes}
+use Rattle.script.specs.Tables.{Tables, tablesScript}
 use Rattle.script.specs.Columns.{contentIn}
 use Rattle.script.specs.Refusals.{headMarked, countsRight, markRefusal, earlier}
 
@@ -36,9 +36,17 @@ recordsRefusal bs n x =
     orElse (earlier (markRefusal bs (n .types) (n .inputs) (n .nodes)) (contentIn (n .types) (n .inputs) (n .nodes) x))
     (structureRefusal (tablesScript (n .types) (n .inputs) (n .nodes) x))
 
--- the counts are a head's, and the tables are long enough for them
-pub record FillFits (bs : List ℕ) (n : Counts) (x : Tables) : Type 0 where
-  pub counts : n ≡ headCounts bs
+-- the records of a file by counts
+unfoldable pub scriptBy : Counts → List ℕ → Script
+scriptBy n bs =
+    record {
+      types = numbered (λ j. typeFrom bs (typeOffset j)) 0 (n .types);
+      inputs = numbered (λ j. inputFrom bs (inputOffset (n .types) j)) 0 (n .inputs);
+      nodes = numbered (λ j. nodeFrom bs (nodeOffset (n .types) (n .inputs) j)) 0 (n .nodes);
+    }
+
+-- tables that are long enough for counts
+pub record FillFits (n : Counts) (x : Tables) : Type 0 where
   pub parameters : n .types ≤ length (x .parameters)
   pub results : n .types ≤ length (x .results)
   pub inputs : n .inputs ≤ length (x .inputs)
@@ -48,19 +56,15 @@ pub record FillFits (bs : List ℕ) (n : Counts) (x : Tables) : Type 0 where
   pub c : n .nodes ≤ length (x .c)
   pub values : n .nodes ≤ length (x .values)
 
-abbrev pub isPassed : Verdict → Bool
-isPassed Verdict.Passed = true
-isPassed (Verdict.Refused f) = false
+-- tables are filled from a file that has passed, if they are long enough
+abbrev pub fills : Verdict → Bool → Bool
+fills Verdict.Passed long = long
+fills (Verdict.Refused f) long = false
 
--- tables that are filled where a test holds
-unfoldable pub filledIf : Bool → List ℕ → Tables → Tables
-filledIf true bs x = filled (scriptIn bs) x
-filledIf false bs x = x
-
--- tables that are filled from a file that has passed, if they are long enough for its counts; r tells whether they are filled
-pub record FilledWhere (passed : Bool) (bs : List ℕ) (before after : Tables) (r : Bool) : Type 0 where
-  pub told : r ≡ (passed && longEnough (headTypes bs) (headInputs bs) (headNodes bs) before)
-  pub tables : after ≡ filledIf r bs before
+-- counts where a test holds, else none
+abbrev pub countedIf : Bool → Counts → Counts
+countedIf true n = n
+countedIf false n = record { types = 0; inputs = 0; nodes = 0 }
 
 abbrev pub readBy : Bool → Counts → Reading
 readBy true n = Reading.Read n

@@ -22,9 +22,9 @@ use script::structure::structure_refusal;
 ghost use mathlib.Core.Path.{_≡_};
 ghost use mathlib.Core.Bool.{true};
 ghost use Rattle.script.specs.Replies.{refusalOf, Reads};
-ghost use Rattle.file.specs.Heads.{headCounts, headRefusal, recordsRefusal, FillFits, FilledWhere, isPassed, replyBy};
+ghost use Rattle.file.specs.Heads.{headCounts, headRefusal, recordsRefusal, scriptBy, FillFits, fills, countedIf, replyBy};
 ghost use Rattle.file.specs.PackedTables.{HoldNodes};
-ghost use Rattle.script.specs.File.{headTypes, headInputs, headNodes, scriptIn};
+ghost use Rattle.script.specs.File.{headTypes, headInputs, headNodes};
 ghost use Rattle.script.specs.Refusals.{countsRight, earlier, bodyRefusal, fileRefusal};
 ghost use Rattle.script.specs.Tables.{filled};
 ghost use Rattle.script.specs.Columns.{tablesOf};
@@ -76,7 +76,7 @@ fn head_refusal(file: &[u8]) -> Verdict
     })
 }
 
-// The records of a file into columns that are long enough for its counts.
+// A file's records, as many as are counted, into columns that are long enough for them.
 fn fill_tables(
     file: &[u8],
     n: Counts,
@@ -89,8 +89,8 @@ fn fill_tables(
     c: &mut [u16],
     values: &mut [i32],
 )
-    requires { ⌜ FillFits (now file) n (tablesOf (now parameters) (now results) (now inputs) (now kinds) (now a) (now b) (now c) (now values)) ⌝ }
-    ensures { λ r. ⌜ tablesOf (now (parameters .exit)) (now (results .exit)) (now (inputs .exit)) (now (kinds .exit)) (now (a .exit)) (now (b .exit)) (now (c .exit)) (now (values .exit)) ≡ filled (scriptIn (now (file .entry))) (tablesOf (now (parameters .entry)) (now (results .entry)) (now (inputs .entry)) (now (kinds .entry)) (now (a .entry)) (now (b .entry)) (now (c .entry)) (now (values .entry))) ⌝ }
+    requires { ⌜ FillFits n (tablesOf (now parameters) (now results) (now inputs) (now kinds) (now a) (now b) (now c) (now values)) ⌝ }
+    ensures { λ r. ⌜ tablesOf (now (parameters .exit)) (now (results .exit)) (now (inputs .exit)) (now (kinds .exit)) (now (a .exit)) (now (b .exit)) (now (c .exit)) (now (values .exit)) ≡ filled (scriptBy n (now (file .entry))) (tablesOf (now (parameters .entry)) (now (results .entry)) (now (inputs .entry)) (now (kinds .entry)) (now (a .entry)) (now (b .entry)) (now (c .entry)) (now (values .entry))) ⌝ }
 {
     let type_count = n.types as usize;
     let input_count = n.inputs as usize;
@@ -219,50 +219,28 @@ pub fn check_file(file: &[u8]) -> Verdict
     }
 }
 
-fn is_passed(v: Verdict) -> bool
-    ensures { λ r. ⌜ r ≡ isPassed v ⌝ }
+// Whether the lent tables are filled: the file has passed, and they are long enough for it.
+fn fills(v: Verdict, long: bool) -> bool
+    ensures { λ r. ⌜ r ≡ fills v long ⌝ }
 {
     match v {
-        Verdict::Passed => true,
+        Verdict::Passed => long,
         Verdict::Refused(_) => false,
     }
 }
 
-// The file's records into the lent tables, where it is not refused and they are long enough; whether that is so.
-fn fill_where(
-    passed: bool,
-    file: &[u8],
-    n: Counts,
-    parameters: &mut [u16],
-    results: &mut [u16],
-    inputs: &mut [u16],
-    kinds: &mut [u8],
-    a: &mut [u16],
-    b: &mut [u16],
-    c: &mut [u16],
-    values: &mut [i32],
-) -> bool
-    requires { ⌜ n ≡ headCounts (now file) ⌝ }
-    ensures { λ r. ⌜ FilledWhere passed (now (file .entry)) (tablesOf (now (parameters .entry)) (now (results .entry)) (now (inputs .entry)) (now (kinds .entry)) (now (a .entry)) (now (b .entry)) (now (c .entry)) (now (values .entry))) (tablesOf (now (parameters .exit)) (now (results .exit)) (now (inputs .exit)) (now (kinds .exit)) (now (a .exit)) (now (b .exit)) (now (c .exit)) (now (values .exit))) r ⌝ }
+// The counts of what is filled in: all or nothing.
+fn counted(full: bool, n: Counts) -> Counts
+    ensures { λ r. ⌜ r ≡ countedIf full n ⌝ }
 {
-    if passed {
-        if long_enough(
-            n,
-            parameters.len(),
-            results.len(),
-            inputs.len(),
-            kinds.len(),
-            a.len(),
-            b.len(),
-            c.len(),
-            values.len(),
-        ) {
-            fill_tables(file, n, parameters, results, inputs, kinds, a, b, c, values);
-            return true;
-        }
-        return false;
+    if full {
+        return n;
     }
-    false
+    Counts {
+        types: 0,
+        inputs: 0,
+        nodes: 0,
+    }
 }
 
 // The reply: the file's refusal, then 21 where the tables were not filled.
@@ -300,19 +278,19 @@ pub fn read(
 {
     let n = head_counts(file);
     let told = check_file(file);
-    let passed = is_passed(told);
-    let full = fill_where(
-        passed,
-        file,
+    let long = long_enough(
         n,
-        parameters,
-        results,
-        inputs,
-        kinds,
-        a,
-        b,
-        c,
-        values,
+        parameters.len(),
+        results.len(),
+        inputs.len(),
+        kinds.len(),
+        a.len(),
+        b.len(),
+        c.len(),
+        values.len(),
     );
+    let full = fills(told, long);
+    let m = counted(full, n);
+    fill_tables(file, m, parameters, results, inputs, kinds, a, b, c, values);
     reply(told, full, n)
 }

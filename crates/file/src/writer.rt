@@ -10,7 +10,7 @@ ghost use Prim.Native.Nat.{_+_, _*_, _≤_};
 ghost use lib.ListN.{length};
 ghost use mathlib.Core.Path.{_≡_};
 ghost use mathlib.Core.List.{[], _∷_};
-ghost use Rattle.script.specs.Bytes.{bytes16};
+ghost use Rattle.script.specs.Bytes.{bytes16, bytes32};
 ghost use Rattle.script.specs.File.{typeBytes, inputBytes, nodeBytes, records, numbered, fileBytes, fileLength};
 ghost use Rattle.script.specs.Tables.{tablesScript};
 ghost use Rattle.script.specs.Replies.{Writes};
@@ -66,7 +66,25 @@ fn input_at(out: &mut [u8], at: usize, input: u16)
     }
 }
 
-// A node's record where the output has room for all of it: 13 plain stores.
+// Where the output has room: a number of 16 bits and one of 32 by plain stores, then a node's record by its parts.
+fn word_inside(out: &mut [u8], at: usize, v: u16)
+    requires { ⌜ at + 2 ≤ length (now out) ⌝ }
+    ensures { λ r. ⌜ Put (now (out .entry)) at (bytes16 v) (now (out .exit)) ⌝ }
+{
+    out[at] = (v % 256) as u8;
+    out[at + 1] = (v / 256 % 256) as u8;
+}
+
+fn value_inside(out: &mut [u8], at: usize, w: u32)
+    requires { ⌜ at + 4 ≤ length (now out) ⌝ }
+    ensures { λ r. ⌜ Put (now (out .entry)) at (bytes32 w) (now (out .exit)) ⌝ }
+{
+    out[at] = (w % 256) as u8;
+    out[at + 1] = (w / 256 % 256) as u8;
+    out[at + 2] = (w / 65536 % 256) as u8;
+    out[at + 3] = (w / 16777216 % 256) as u8;
+}
+
 fn node_inside(out: &mut [u8], at: usize, kind: u8, a: u16, b: u16, c: u16, w: u32)
     requires { ⌜ at + 13 ≤ length (now out) ⌝ }
     ensures { λ r. ⌜ Put (now (out .entry)) at (nodeParts kind a b c w) (now (out .exit)) ⌝ }
@@ -74,16 +92,10 @@ fn node_inside(out: &mut [u8], at: usize, kind: u8, a: u16, b: u16, c: u16, w: u
     out[at] = b'N';
     out[at + 1] = b'D';
     out[at + 2] = kind;
-    out[at + 3] = (a % 256) as u8;
-    out[at + 4] = (a / 256 % 256) as u8;
-    out[at + 5] = (b % 256) as u8;
-    out[at + 6] = (b / 256 % 256) as u8;
-    out[at + 7] = (c % 256) as u8;
-    out[at + 8] = (c / 256 % 256) as u8;
-    out[at + 9] = (w % 256) as u8;
-    out[at + 10] = (w / 256 % 256) as u8;
-    out[at + 11] = (w / 65536 % 256) as u8;
-    out[at + 12] = (w / 16777216 % 256) as u8;
+    word_inside(out, at + 3, a);
+    word_inside(out, at + 5, b);
+    word_inside(out, at + 7, c);
+    value_inside(out, at + 9, w);
 }
 
 // The same where the output may end sooner: then nothing is put. A place of 32 bits cannot wrap, so there is one test.

@@ -1,9 +1,11 @@
 -- `file::content::first_bad_node` meets its contract: the loop searches, and packs the nodes before j. Assumes nothing.
-use Prim.Native.Nat.{ℕ, _-_}
-use mathlib.Core.Path.{_≡_, refl, sym, _∙_}
+use Prim.Native.Nat.{ℕ, _+_, _-_, _*_, _<_, _≤_}
+use mathlib.Core.Path.{_≡_, refl}
+use native.Mathlib.Nat.{lt-of-lt-of-le}
 use native.Mathlib.Omega.{arith}
 use lib.ListN.{length, length-set}
-use mir.Syntax.{w32}
+use mir.Syntax.{w32, w64}
+use mir.Val.{Fits}
 use mir.Facts.{toZ-ofZ}
 use Rattle.lambdamix.specs.Limits.{maxNodes}
 use Rattle.script.specs.Columns.{nodesIn}
@@ -11,7 +13,7 @@ use Rattle.script.specs.Refusals.{nodeFits}
 use Rattle.script.specs.Replies.{foundAt}
 use Rattle.script.specs.Words.{Packed}
 use Rattle.script.proofs.WordLaws.{holds-row, packed-none, packed-more}
-use Rattle.file.proofs.ContentLaws.{node-read}
+use Rattle.file.proofs.ContentLaws.{node-told}
 use Rattle.file.proofs.Searching.{Searching, search-begins, search-goes-on, search-finds, search-ends}
 use Rattle.file.proofs.content.first_bad_node.Statement.{statement}
 use Rattle.file.proofs.content.first_bad_node.Tie as tie
@@ -23,43 +25,49 @@ Inv-loop types inputs nodes kinds a b c values words₀ j₀ words j =
 abbrev μ-loop : tie.MeasureT-loop
 μ-loop types inputs nodes kinds a b c values words₀ j₀ words j = nodes - j
 
+-- the number of a node, the number after it and the places of its parts fit a word
+record InWord (j : ℕ) : Type 0 where
+  two : Fits w64 (j * 2)
+  four : Fits w64 (j * 4)
+  eight : Fits w64 (j * 8)
+  next : Fits w64 (j + 1)
+
+in-word : {j n : ℕ} → j < n → n ≤ maxNodes → InWord j
+unfolding maxNodes
+in-word h k = omega arith
+
 loop-holds : tie.Need-loop-holds Inv-loop μ-loop
 loop-holds c = (search-begins _ _, (packed-none _ _, refl))
 
 read-kind : tie.Need-shared-slice-read-kind Inv-loop μ-loop
-read-kind c = omega (arith, c .before .before .before .before .before .before .before .before .pre .1, c .before .loop-test .taken)
+read-kind c = lt-of-lt-of-le (c .before .loop-test .taken) (c .before .before .before .before .before .before .before .before .pre .1 .kinds)
 
 mul-x : tie.Need-mul-x Inv-loop μ-loop
-unfolding maxNodes
-mul-x c = omega (arith, c .before .loop-test .taken, c .before .before .before .before .before .before .before .before .pre .0)
+mul-x c = in-word (c .before .loop-test .taken) (c .before .before .before .before .before .before .before .before .pre .0 .1 .0) .two
 
 read-x : tie.Need-shared-slice-read-x Inv-loop μ-loop
-read-x c = omega (arith, c .before .before .before .before .before .before .before .before .before .pre .1, c .before .before .loop-test .taken)
+read-x c = lt-of-lt-of-le (c .before .before .loop-test .taken) (c .before .before .before .before .before .before .before .before .before .pre .1 .a)
 
 mul-y : tie.Need-mul-y Inv-loop μ-loop
-unfolding maxNodes
-mul-y c = omega (arith, c .before .before .loop-test .taken, c .before .before .before .before .before .before .before .before .before .pre .0)
+mul-y c = in-word (c .before .before .loop-test .taken) (c .before .before .before .before .before .before .before .before .before .pre .0 .1 .0) .two
 
 read-y : tie.Need-shared-slice-read-y Inv-loop μ-loop
-read-y c = omega (arith, c .before .before .before .before .before .before .before .before .before .before .pre .1, c .before .before .before .loop-test .taken)
+read-y c = lt-of-lt-of-le (c .before .before .before .loop-test .taken) (c .before .before .before .before .before .before .before .before .before .before .pre .1 .b)
 
 mul-z : tie.Need-mul-z Inv-loop μ-loop
-unfolding maxNodes
-mul-z c = omega (arith, c .before .before .before .loop-test .taken, c .before .before .before .before .before .before .before .before .before .before .pre .0)
+mul-z c = in-word (c .before .before .before .loop-test .taken) (c .before .before .before .before .before .before .before .before .before .before .pre .0 .1 .0) .two
 
 read-z : tie.Need-shared-slice-read-z Inv-loop μ-loop
-read-z c = omega (arith, c .before .before .before .before .before .before .before .before .before .before .before .pre .1, c .before .before .before .before .loop-test .taken)
+read-z c = lt-of-lt-of-le (c .before .before .before .before .loop-test .taken) (c .before .before .before .before .before .before .before .before .before .before .before .pre .1 .c)
 
 mul-value : tie.Need-mul-value Inv-loop μ-loop
-unfolding maxNodes
-mul-value c = omega (arith, c .before .before .before .before .loop-test .taken, c .before .before .before .before .before .before .before .before .before .before .before .pre .0)
+mul-value c = in-word (c .before .before .before .before .loop-test .taken) (c .before .before .before .before .before .before .before .before .before .before .before .pre .0 .1 .0) .four
 
 read-value : tie.Need-shared-slice-copy-out-value Inv-loop μ-loop
-read-value c = omega (arith, c .before .before .before .before .before .before .before .before .before .before .before .pre .1, c .before .before .before .before .loop-test .taken)
+read-value c = lt-of-lt-of-le (c .before .before .before .before .loop-test .taken) (c .before .before .before .before .before .before .before .before .before .before .before .pre .1 .values)
 
 mul-words : tie.Need-mul-words Inv-loop μ-loop
-unfolding maxNodes
-mul-words c = omega (arith, c .before .before .before .before .before .before .loop-test .taken, c .before .before .before .before .before .before .before .before .before .before .before .before .before .pre .0)
+mul-words c = in-word (c .before .before .before .before .before .before .loop-test .taken) (c .before .before .before .before .before .before .before .before .before .before .before .before .before .pre .0 .1 .0) .eight
 
 write-words : tie.Need-slice-write-words Inv-loop μ-loop
 write-words c = omega (arith, c .before .before .before .before .before .before .before .loop .inv .1 .1, c .before .before .before .before .before .before .loop-test .taken, c .before .before .before .before .before .before .before .before .before .before .before .before .before .pre .0)
@@ -68,8 +76,7 @@ node-right-requires : tie.Need-node-right-requires Inv-loop μ-loop
 node-right-requires c κs = c .before .before .before .before .before .before .before .before .before .before .before .before .before .pre .0 .0
 
 add-j : tie.Need-add-j Inv-loop μ-loop
-unfolding maxNodes
-add-j c = omega (arith, c .before .before .before .before .before .before .before .before .loop-test .taken, c .before .before .before .before .before .before .before .before .before .before .before .before .before .before .before .pre .0)
+add-j c = in-word (c .before .before .before .before .before .before .before .before .loop-test .taken) (c .before .before .before .before .before .before .before .before .before .before .before .before .before .before .before .pre .0 .1 .0) .next
 
 loop-less : tie.Need-loop-less Inv-loop μ-loop
 loop-less c = omega (arith, c .before .before .before .before .before .before .before .before .loop-test .taken)
@@ -77,7 +84,7 @@ loop-less c = omega (arith, c .before .before .before .before .before .before .b
 loop-again : tie.Need-loop-again Inv-loop μ-loop
 loop-again c =
     let v = toZ-ofZ {w = w32} (record { sfits = c .before .before .before .value .given }) in (
-      search-goes-on _ (c .before .before .before .before .before .before .before .before .before .loop .inv .0) (c .before .before .before .before .before .before .before .before .loop-test .taken) (sym (c .before .node-right .ensures ∙ node-read _ _ _ _ refl refl refl refl v) ∙ c .if1 .taken),
+      search-goes-on _ (c .before .before .before .before .before .before .before .before .before .loop .inv .0) (c .before .before .before .before .before .before .before .before .loop-test .taken) (node-told _ _ _ _ (c .before .node-right .ensures) refl refl refl refl v (c .if1 .taken)),
       (
         packed-more (c .before .before .before .before .before .before .before .before .before .loop .inv .1 .0) (holds-row (c .before .before .pack-node .ensures) refl refl refl refl v) (omega (arith, c .before .before .before .before .before .before .before .before .before .loop .inv .1 .1, c .before .before .before .before .before .before .before .before .loop-test .taken, c .before .before .before .before .before .before .before .before .before .before .before .before .before .before .before .pre .0)),
         simp length-set (c .before .before .before .before .before .before .before .before .before .loop .inv .1 .1),
@@ -91,7 +98,7 @@ returns : tie.Need-returns Inv-loop μ-loop
 unfolding foundAt
 returns c =
     let v = toZ-ofZ {w = w32} (record { sfits = c .before .before .before .value .given }) in (
-      search-finds _ (c .before .before .before .before .before .before .before .before .before .loop .inv .0) (c .before .before .before .before .before .before .before .before .loop-test .taken) (sym (c .before .node-right .ensures ∙ node-read _ _ _ _ refl refl refl refl v) ∙ c .if1 .left),
+      search-finds _ (c .before .before .before .before .before .before .before .before .before .loop .inv .0) (c .before .before .before .before .before .before .before .before .loop-test .taken) (node-told _ _ _ _ (c .before .node-right .ensures) refl refl refl refl v (c .if1 .left)),
       record { all = λ e. let z : _≡_ {A = ℕ} 0 1 = cc in absurd (omega arith) },
     )
 
