@@ -86,7 +86,7 @@ module _
     written-fits : Encodable (written s c)
     unfolding written nodeAt maxInputs maxNodes inputFits
     written-fits =
-        let inputs : length (s .inputs) ≤ 16 = leb-true (length (s .inputs)) maxInputs few in
+        let inputs : length (s .inputs) ≤ maxInputs = leb-true (length (s .inputs)) maxInputs few in
         let (small, same) = sizes-right s few right scoped names constants fitting in
         record {
           typeCount = omega arith;

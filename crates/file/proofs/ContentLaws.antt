@@ -140,22 +140,22 @@ module _ (f : ℕ → FunctionType) (j : ℕ) where
 
 -- what right counts say
 pub record InLimits (t i n : ℕ) : Type 0 where
-  pub types : t ≤ 64
-  pub inputs : i ≤ 16
+  pub types : t ≤ maxTypes
+  pub inputs : i ≤ maxInputs
   pub some-node : 1 ≤ n
-  pub nodes : n ≤ 4096
+  pub nodes : n ≤ maxNodes
 
 pub in-limits : (t i n : ℕ) → countsRight t i n ≡ true → InLimits t i n
-unfolding countsRight maxTypes maxInputs maxNodes
+unfolding countsRight
 in-limits t i n e =
-    let p = and-both (leb t 64) (leb i 16 && (leb 1 n && leb n 4096)) e in
-    let q = and-both (leb i 16) (leb 1 n && leb n 4096) (p .1) in
-    let r = and-both (leb 1 n) (leb n 4096) (q .1) in
+    let p = and-both (leb t maxTypes) (leb i maxInputs && (leb 1 n && leb n maxNodes)) e in
+    let q = and-both (leb i maxInputs) (leb 1 n && leb n maxNodes) (p .1) in
+    let r = and-both (leb 1 n) (leb n maxNodes) (q .1) in
     record {
-      types = leb-true t 64 (p .0);
-      inputs = leb-true i 16 (q .0);
+      types = leb-true t maxTypes (p .0);
+      inputs = leb-true i maxInputs (q .0);
       some-node = leb-true 1 n (r .0);
-      nodes = leb-true n 4096 (r .1);
+      nodes = leb-true n maxNodes (r .1);
     }
 
 module _ (t i n : ℕ) (x : Tables) where

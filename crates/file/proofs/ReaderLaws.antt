@@ -9,7 +9,7 @@ use lib.IntN.{ℤ}
 use lib.ListN.{length}
 use lib.Dec.{leb}
 use Rattle.lambdamix.specs.Checker as Checker
-use Rattle.lambdamix.specs.Limits.{maxNodes}
+use Rattle.lambdamix.specs.Limits.{maxTypes, maxInputs, maxNodes}
 use Rattle.lambdamix.specs.Script.{Script}
 use Rattle.lambdamix.specs.Structure.{orElse, refusedUnless}
 use Rattle.script.specs.declared.Counts.{Counts}
@@ -40,8 +40,8 @@ counts-here bs e h = ap (λ (m : Counts). countsRight (m .types) (m .inputs) (m 
 
 -- columns as long as the limits hold every file whose counts are right
 pub own-fits : (bs : List ℕ) {n : Counts} (x : Tables) → n ≡ headCounts bs → countsRight (headTypes bs) (headInputs bs) (headNodes bs) ≡ true
-    → length (x .parameters) ≡ 64 → length (x .results) ≡ 64 → length (x .inputs) ≡ 16
-    → length (x .kinds) ≡ 4096 → length (x .a) ≡ 4096 → length (x .b) ≡ 4096 → length (x .c) ≡ 4096 → length (x .values) ≡ 4096
+    → length (x .parameters) ≡ maxTypes → length (x .results) ≡ maxTypes → length (x .inputs) ≡ maxInputs
+    → length (x .kinds) ≡ maxNodes → length (x .a) ≡ maxNodes → length (x .b) ≡ maxNodes → length (x .c) ≡ maxNodes → length (x .values) ≡ maxNodes
     → FillFits n x
 own-fits bs {n} x e h p r i k a b c v =
     let l = in-limits (n .types) (n .inputs) (n .nodes) (counts-here bs e h) in
@@ -59,7 +59,7 @@ own-fits bs {n} x e h p r i k a b c v =
 -- and so do columns of the same lengths
 pub own-holds : (bs : List ℕ) {n : Counts} → n ≡ headCounts bs → countsRight (headTypes bs) (headInputs bs) (headNodes bs) ≡ true
     → {ks xs ys zs : List ℕ} {vs : List ℤ}
-    → length ks ≡ 4096 → length xs ≡ 4096 → length ys ≡ 4096 → length zs ≡ 4096 → length vs ≡ 4096 → HoldNodes (n .nodes) ks xs ys zs vs
+    → length ks ≡ maxNodes → length xs ≡ maxNodes → length ys ≡ maxNodes → length zs ≡ maxNodes → length vs ≡ maxNodes → HoldNodes (n .nodes) ks xs ys zs vs
 own-holds bs {n} e h k a b c v =
     let l = in-limits (n .types) (n .inputs) (n .nodes) (counts-here bs e h) in
     record {

@@ -122,7 +122,6 @@ module _ (t i n : ℕ) (ps rs is ks xs ys zs : List ℕ) (vs : List ℤ) where
   -- After the contents the check of structure gives 6, 7 and 8.
   pub structure-after : contentIn t i n columns ≡ none → (r : Verdict) {ws : List ℕ} → Packed n (rowNode columns) ws → Structured ws i n r
       → refusalOf r ≡ structureRefusal (tablesScript t i n columns)
-  unfolding maxNodes
   structure-after e r p m =
       let q = content-passes t i n columns e in
       let l = in-limits t i n (q .0) in

@@ -185,7 +185,7 @@ module _
     unfolding maxNodes maxInputs inputCount
     each-good j l =
         let (small, same) = sizes-right in
-        let inputs : length (s .inputs) ≤ 16 = leb-true (length (s .inputs)) maxInputs few in
+        let inputs : length (s .inputs) ≤ maxInputs = leb-true (length (s .inputs)) maxInputs few in
         subst (λ i. Good 0 (inputCount s) i (getD (nodesFrom 0 c) j blankNode)) (zero-add j)
         (good-at (nodes-good (omega arith) names 0 0 scoped constants (omega (arith, top-last c 0))) j l)
 

@@ -10,6 +10,7 @@ use native.Mathlib.Omega.{arith}
 use lib.ListN.{length, getD, length-append}
 use lib.Dec.{ltb, eqb}
 use borrow.Author.Tests.{ltb-true, ltb-false, lt-ltb, le-ltb, eqb-true, eqb-false}
+use Rattle.lambdamix.specs.Limits.{maxNodes}
 use Rattle.lambdamix.specs.Falling.{guarded, below}
 use Rattle.lambdamix.specs.Script.{Script, Node, nodeAt, nodeCount, inputCount, root, children, blankNode}
 use Rattle.lambdamix.specs.Structure.{oneIf, occurrences, uses}
@@ -155,4 +156,5 @@ listing-bytes s fits e =
 
 -- "no listing passes 65,536 bytes"
 pub listing-bound : (s : Script) → Encodable s → scriptRefusal s ≡ none → length (listing s) ≤ 65536
+unfolding maxNodes
 listing-bound s fits e = omega (arith, listing-bytes s fits e, passed s e .few-nodes)

@@ -25,16 +25,16 @@ pub data Under (j : ℕ) : List ℕ → Type 0 where
 
 pub record Passed (s : Script) : Type 0 where
   pub some-nodes : 1 ≤ nodeCount s
-  pub few-nodes : nodeCount s ≤ 4096
+  pub few-nodes : nodeCount s ≤ maxNodes
   pub under : (j : ℕ) → j < nodeCount s → Under j (children (nodeAt s j))
   pub once : (j : ℕ) → j < root s → uses (s .nodes) j ≡ 1
 
 -- refusal 3
-counts-within : (t i n : ℕ) → countsRight t i n ≡ true → (1 ≤ n) × (n ≤ 4096)
-unfolding countsRight maxTypes maxInputs maxNodes
+counts-within : (t i n : ℕ) → countsRight t i n ≡ true → (1 ≤ n) × (n ≤ maxNodes)
+unfolding countsRight
 counts-within t i n e =
-    let d = and-both (leb 1 n) (leb n 4096) (and-both (leb i 16) (leb 1 n && leb n 4096) (and-both (leb t 64) (leb i 16 && (leb 1 n && leb n 4096)) e .1) .1) in
-    (leb-true 1 n (d .0), leb-true n 4096 (d .1))
+    let d = and-both (leb 1 n) (leb n maxNodes) (and-both (leb i maxInputs) (leb 1 n && leb n maxNodes) (and-both (leb t maxTypes) (leb i maxInputs && (leb 1 n && leb n maxNodes)) e .1) .1) in
+    (leb-true 1 n (d .0), leb-true n maxNodes (d .1))
 
 -- refusal 5
 child-under :

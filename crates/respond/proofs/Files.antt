@@ -38,7 +38,6 @@ pub script-passes : (bs : List ℕ) → AllBytes bs → fileRefusal bs ≡ none 
 script-passes bs all e = sym (file-refusal (scriptIn bs) (read-fits bs all)) ∙ ap fileRefusal (written-read bs all e) ∙ e
 
 pub few-inputs : (bs : List ℕ) → fileRefusal bs ≡ none → length (scriptIn bs .inputs) ≤ maxInputs
-unfolding maxInputs
 few-inputs bs e = omega (arith, script-counts bs .1, in-limits _ _ _ (file-counts bs e) .inputs)
 
 -- ---- tables that are long enough for every file
@@ -48,7 +47,7 @@ lower {a} {b} x h e = le-leb a x (omega (arith, leb-true b x e))
 
 pub long-for :
     (t i n : ℕ) (x : Tables) → countsRight t i n ≡ true → longEnough maxTypes maxInputs maxNodes x ≡ true → longEnough t i n x ≡ true
-unfolding longEnough maxTypes maxInputs maxNodes
+unfolding longEnough
 long-for t i n x h e =
     let l = in-limits t i n h in
     let (types, rest) = and-both _ _ e in

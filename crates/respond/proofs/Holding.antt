@@ -101,7 +101,7 @@ module _ {bs : List ℕ} {x y : Tables} {r : Reading} (room : longEnough maxType
           ap (λ (w : Told.Refusal). some (record { number = w .number; place = w .place })) (sym v)
 
   pub held : AllBytes bs → {n : Counts} → r ≡ Reading.Read n → Held bs n y
-  unfolding reading readTables headCounts maxTypes maxInputs maxNodes
+  unfolding reading readTables headCounts
   held all {n} q =
       let e : fileRefusal bs ≡ none = read-passes q in
       let none-told : readRefusal bs x ≡ none = not-short e in

@@ -1,6 +1,6 @@
 -- Inputs of any length are answered by their first `maxBytes` bytes: a right head's script ends before them, and what follows it is
 -- then too much for settings; a wrong head is told alone. Assumes nothing.
-use Prim.Native.Nat.{ℕ, _+_, _/_, _≤_, _<_}
+use Prim.Native.Nat.{ℕ, _+_, _*_, _/_, _≤_, _<_}
 use mathlib.Core.Path.{_≡_, refl, sym, ap, _∙_}
 use mathlib.Core.Bool.{Bool, true, false, _&&_, true≢false}
 use mathlib.Core.List.{List}
@@ -10,7 +10,7 @@ use lib.ListN.{length, take, length-drop}
 use lib.Seq.{take-all, take-take, getD-take, length-take-le}
 use lib.Dec.{leb, ltb}
 use borrow.Author.Tests.{le-leb}
-use Rattle.lambdamix.specs.Limits.{maxInputs}
+use Rattle.lambdamix.specs.Limits.{maxTypes, maxInputs, maxNodes}
 use Rattle.lambdamix.specs.Checker.{Refusal, annotationRefusal}
 use Rattle.lambdamix.specs.Structure.{orElse, refusedUnless}
 use Rattle.lambdamix.specs.Specializing.{unmade, unlessRefused}
@@ -109,8 +109,9 @@ module _ (bs : List ℕ) (long : maxBytes ≤ length bs) where
     abbrev size : ℕ
     size = fileLength (headTypes bs) (headInputs bs) (headNodes bs)
 
-    size-small : size ≤ 53704
-    unfolding fileLength nodeOffset
+    -- a file and the settings that are too many for any script
+    size-small : size + 6 * programSettings ≤ maxBytes
+    unfolding fileLength nodeOffset programSettings maxTypes maxInputs maxNodes maxBytes
     size-small =
         let l = in-limits (headTypes bs) (headInputs bs) (headNodes bs) (right-counts bs right) in
         omega (arith, l .types, l .inputs, l .nodes)
@@ -124,15 +125,15 @@ module _ (bs : List ℕ) (long : maxBytes ≤ length bs) where
     length-front = rw (right-same, right, types-same, inputs-same, nodes-same)
 
     script-same : scriptPart front ≡ scriptPart bs
-    unfolding maxBytes scriptPart
+    unfolding scriptPart
     script-same = rw (length-front, length-bs) (take-take size maxBytes bs (omega (arith, size-small)))
 
     many-bs : programSettings ≤ length (settingsPart bs) / 6
-    unfolding maxBytes programSettings maxInputs settingsPart
+    unfolding settingsPart
     many-bs = rw (length-bs, length-drop size bs) (omega (arith, size-small))
 
     many-front : programSettings ≤ length (settingsPart front) / 6
-    unfolding maxBytes programSettings maxInputs settingsPart
+    unfolding settingsPart
     many-front = rw (length-front, length-drop size front, front-length) (omega (arith, size-small))
 
     right-response : response front ≡ response bs

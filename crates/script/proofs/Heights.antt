@@ -97,27 +97,27 @@ module _ (x : Columns) (i : ℕ) where
 -- ---- two answers in one
 
 -- a height and what is no less
-after-height : {p q h g : ℕ} {t u : Option ℕ} → p ≤ q → p ≤ 256 → Tall p h t → Tall q g u → Tall q (max h g) (lowest t u)
+after-height : {p q h g : ℕ} {t u : Option ℕ} → p ≤ q → p ≤ maxHeight → Tall p h t → Tall q g u → Tall q (max h g) (lowest t u)
 unfolding lowest maxHeight
 after-height {h = h} {g = g} l k (low a) (low b) = let e : max h g ≡ g = omega arith in rw e (low b)
 after-height {h = h} {g = g} l k (low a) (high e b c) = high {h = max h g} e (omega arith) c
 after-height l k (high e a c) t = absurd (omega arith)
 
-before-height : {p q h g : ℕ} {t u : Option ℕ} → q ≤ p → q ≤ 256 → Tall p h t → Tall q g u → Tall p (max h g) (lowest t u)
+before-height : {p q h g : ℕ} {t u : Option ℕ} → q ≤ p → q ≤ maxHeight → Tall p h t → Tall q g u → Tall p (max h g) (lowest t u)
 unfolding lowest maxHeight
 before-height {h = h} {g = g} l k (low a) (low b) = let e : max h g ≡ h = omega arith in rw e (low a)
 before-height {h = h} {g = g} l k (high e a c) (low b) = high {h = max h g} e (omega arith) c
 before-height l k t (high e b c) = absurd (omega arith)
 
 -- two places
-first-place : {p q h g : ℕ} {t u : Option ℕ} → p < q → 256 < p → Tall p h t → Tall q g u → Tall p (max h g) (lowest t u)
+first-place : {p q h g : ℕ} {t u : Option ℕ} → p < q → maxHeight < p → Tall p h t → Tall q g u → Tall p (max h g) (lowest t u)
 unfolding maxHeight
 first-place l k (low a) t = absurd (omega arith)
 first-place l k (high e a c) (low b) = absurd (omega arith)
 first-place {h = h} {g = g} l k (high {j = i} e a c) (high {j = j} f b d) =
     rw (lowest-first i j (omega arith)) (high {h = max h g} e (omega arith) c)
 
-second-place : {p q h g : ℕ} {t u : Option ℕ} → q ≤ p → 256 < q → Tall p h t → Tall q g u → Tall q (max h g) (lowest t u)
+second-place : {p q h g : ℕ} {t u : Option ℕ} → q ≤ p → maxHeight < q → Tall p h t → Tall q g u → Tall q (max h g) (lowest t u)
 unfolding maxHeight
 second-place l k t (low b) = absurd (omega arith)
 second-place l k (low a) (high f b d) = absurd (omega arith)
@@ -125,71 +125,71 @@ second-place {h = h} {g = g} l k (high {j = i} e a c) (high {j = j} f b d) =
     rw (lowest-second i j (omega arith)) (high {h = max h g} f (omega arith) d)
 
 module _ {p q : ℕ} where
-  pub join-second : p < q → p ≤ 256 → TallJoin p q q
+  pub join-second : p < q → p ≤ maxHeight → TallJoin p q q
   join-second l k = record { joined = λ h g t u. after-height (omega arith) k }
 
-  pub join-first : q ≤ p → q ≤ 256 → TallJoin p q p
+  pub join-first : q ≤ p → q ≤ maxHeight → TallJoin p q p
   join-first l k = record { joined = λ h g t u. before-height l k }
 
-  pub join-places-first : p < q → 256 < p → TallJoin p q p
+  pub join-places-first : p < q → maxHeight < p → TallJoin p q p
   join-places-first l k = record { joined = λ h g t u. first-place l k }
 
-  pub join-places-second : q ≤ p → 256 < q → TallJoin p q q
+  pub join-places-second : q ≤ p → maxHeight < q → TallJoin p q q
   join-places-second l k = record { joined = λ h g t u. second-place l k }
 
 -- ---- a node over the answer of its children
 
 grown :
-    (i : ℕ) {p h : ℕ} {t : Option ℕ} → p < 256 → Tall p h t → Tall (p + 1) (suc h) (lowest (firstBy (leb (suc h) maxHeight) i none) t)
+    (i : ℕ) {p h : ℕ} {t : Option ℕ} → p < maxHeight → Tall p h t → Tall (p + 1) (suc h) (lowest (firstBy (leb (suc h) maxHeight) i none) t)
 unfolding maxHeight firstBy lowest
-grown i {h = h} l (low a) = rw (le-leb (suc h) 256 (omega arith), add-one h) (low {h = suc h} (omega arith))
+grown i {h = h} l (low a) = rw (le-leb (suc h) maxHeight (omega arith), add-one h) (low {h = suc h} (omega arith))
 grown i l (high e a c) = absurd (omega arith)
 
 -- the first that is too high
 crossed :
-    (i : ℕ) {p r h : ℕ} {t : Option ℕ} → 256 ≤ p → p ≤ 256 → r ≡ 257 + i → i < 65536 → Tall p h t
+    (i : ℕ) {p r h : ℕ} {t : Option ℕ} → maxHeight ≤ p → p ≤ maxHeight → r ≡ maxHeight + 1 + i → i < 65536 → Tall p h t
     → Tall r (suc h) (lowest (firstBy (leb (suc h) maxHeight) i none) t)
 unfolding maxHeight firstBy lowest
-crossed i {h = h} l k e b (low a) = rw (lt-leb (suc h) 256 (omega arith)) (high {h = suc h} e (omega arith) b)
+crossed i {h = h} l k e b (low a) = rw (lt-leb (suc h) maxHeight (omega arith)) (high {h = suc h} e (omega arith) b)
 crossed i l k e b (high f a c) = absurd (omega arith)
 
 -- a place below that is lower, and one that is not
 passed-on :
-    (i : ℕ) {p h : ℕ} {t : Option ℕ} → 256 < p → p < 257 + i → Tall p h t
+    (i : ℕ) {p h : ℕ} {t : Option ℕ} → maxHeight < p → p < maxHeight + 1 + i → Tall p h t
     → Tall p (suc h) (lowest (firstBy (leb (suc h) maxHeight) i none) t)
 unfolding maxHeight firstBy
 passed-on i l k (low a) = absurd (omega arith)
-passed-on i {h = h} l k (high {j = j} f a c) = rw (lt-leb (suc h) 256 (omega arith), lowest-second i j (omega arith)) (high {h = suc h} f (omega arith) c)
+passed-on i {h = h} l k (high {j = j} f a c) = rw (lt-leb (suc h) maxHeight (omega arith), lowest-second i j (omega arith)) (high {h = suc h} f (omega arith) c)
 
 kept-own :
-    (i : ℕ) {p r h : ℕ} {t : Option ℕ} → 256 < p → 257 + i ≤ p → r ≡ 257 + i → i < 65536 → Tall p h t
+    (i : ℕ) {p r h : ℕ} {t : Option ℕ} → maxHeight < p → maxHeight + 1 + i ≤ p → r ≡ maxHeight + 1 + i → i < 65536 → Tall p h t
     → Tall r (suc h) (lowest (firstBy (leb (suc h) maxHeight) i none) t)
 unfolding maxHeight firstBy
 kept-own i l k e b (low a) = absurd (omega arith)
 kept-own i {h = h} l k e b (high {j = j} f a c) =
-    rw (lt-leb (suc h) 256 (omega arith), lowest-first i j (omega arith)) (high {h = suc h} e (omega arith) b)
+    rw (lt-leb (suc h) maxHeight (omega arith), lowest-first i j (omega arith)) (high {h = suc h} e (omega arith) b)
 
 module _ {i p : ℕ} where
-  pub node-low : p < 256 → TallNode i p (p + 1)
+  pub node-low : p < maxHeight → TallNode i p (p + 1)
   node-low l = record { over = λ h t. grown i l }
 
-  pub node-crosses : 256 ≤ p → p ≤ 256 → i < 65536 → TallNode i p (257 + i)
+  pub node-crosses : maxHeight ≤ p → p ≤ maxHeight → i < 65536 → TallNode i p (maxHeight + 1 + i)
   node-crosses l k b = record { over = λ h t. crossed i l k refl b }
 
-  pub node-passes-on : 256 < p → p < 257 + i → TallNode i p p
+  pub node-passes-on : maxHeight < p → p < maxHeight + 1 + i → TallNode i p p
   node-passes-on l k = record { over = λ h t. passed-on i l k }
 
-  pub node-keeps-own : 256 < p → 257 + i ≤ p → i < 65536 → TallNode i p (257 + i)
+  pub node-keeps-own : maxHeight < p → maxHeight + 1 + i ≤ p → i < 65536 → TallNode i p (maxHeight + 1 + i)
   node-keeps-own l k b = record { over = λ h t. kept-own i l k refl b }
 
 -- ---- the answer at the root
 
-pub tall-low : {r h : ℕ} {t : Option ℕ} → Tall r h t → r ≤ 256 → (h ≤ maxHeight) × (t ≡ none)
+pub tall-low : {r h : ℕ} {t : Option ℕ} → Tall r h t → r ≤ maxHeight → (h ≤ maxHeight) × (t ≡ none)
 unfolding maxHeight
 tall-low (low a) l = (a, refl)
 tall-low (high e a c) l = absurd (omega arith)
 
-pub tall-high : {r h : ℕ} {t : Option ℕ} → Tall r h t → 256 < r → t ≡ some (r - 257)
+pub tall-high : {r h : ℕ} {t : Option ℕ} → Tall r h t → maxHeight < r → t ≡ some (r - (maxHeight + 1))
 unfolding maxHeight
 tall-high (low a) l = absurd (omega arith)
 tall-high (high e a c) l = ap some (omega arith)

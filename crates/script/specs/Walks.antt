@@ -94,10 +94,11 @@ tooHighStep x self i = lowest (firstBy (leb (heightAt x i) maxHeight) i none) (g
 unfoldable pub tooHighAt : Columns → ℕ → Option ℕ
 tooHighAt x = falling none (tooHighStep x)
 
--- what a walk of heights answers in one number: a height within the limit, or 257 plus the lowest node that is too high
+-- what a walk of heights answers in one number: a height within the limit, or the limit and one plus the lowest node that is
+-- too high
 pub data Tall : ℕ → ℕ → Option ℕ → Type 0 where
   low : {h : ℕ} → h ≤ maxHeight → Tall h h none
-  high : {r h j : ℕ} → r ≡ 257 + j → maxHeight < h → j < 65536 → Tall r h (some j)
+  high : {r h j : ℕ} → r ≡ maxHeight + 1 + j → maxHeight < h → j < 65536 → Tall r h (some j)
 
 abbrev pub isName : Use → Bool
 isName Nothing = false

@@ -1,4 +1,4 @@
-// Refusals 6, 7 and 8 of nodes in words: each node but the root is used once, no node is higher than 256, and each variable
+// Refusals 6, 7 and 8 of nodes in words: each node but the root is used once, no node is higher than the limit, and each variable
 // has a binder or is an input. The walks go down from the root, from a node to its children, whose numbers are below. They
 // pass integers, a reference to an array and a reference to a slice reference, and answer in one integer, which all travel in
 // registers (a slice reference itself goes through memory); so a node's number and a name are plain u16 in this file.

@@ -6,8 +6,17 @@ use file::bytes;
 use script::Counts;
 use script::Reading;
 use script::column;
+use script::limits::MAX_INPUTS;
+use script::limits::MAX_NODES;
+use script::limits::MAX_TYPES;
 use specializer::Reply;
+use specializer::limits::MAX_FUEL;
 ghost use Prim.Native.Nat.{_≤_};
+
+// Places of the stores that suffice for every call.
+const HEAP: usize = (MAX_FUEL as usize) + MAX_INPUTS;
+
+const CODES: usize = 2 * (MAX_FUEL as usize) + MAX_INPUTS;
 
 fn word32(record: &[u8], at: u16) -> u32 {
     let low = bytes::word16(record, at as usize) as u32;
@@ -142,11 +151,11 @@ fn make_lent(
     settings: &[i32],
     out: &mut [u8],
 ) -> Reply {
-    let mut heap = [0u64; 16016];
-    let mut codes = [0u64; 32016];
+    let mut heap = [0u64; HEAP];
+    let mut codes = [0u64; CODES];
     let bare = column::at8(record, 0) == 1;
-    let store = lent(record, 5, 16016);
-    let code = lent(record, 9, 32016);
+    let store = lent(record, 5, HEAP);
+    let code = lent(record, 9, CODES);
     let first = 0;
     make(
         bare,
@@ -169,14 +178,14 @@ fn make_lent(
 
 // The script file of a record is read, and made.
 fn try_file(k: usize, record: &[u8], file: &[u8], settings: &[i32], out: &mut [u8]) {
-    let mut parameters = [0u16; 64];
-    let mut results = [0u16; 64];
-    let mut inputs = [0u16; 16];
-    let mut kinds = [0u8; 4096];
-    let mut a = [0u16; 4096];
-    let mut b = [0u16; 4096];
-    let mut c = [0u16; 4096];
-    let mut values = [0i32; 4096];
+    let mut parameters = [0u16; MAX_TYPES];
+    let mut results = [0u16; MAX_TYPES];
+    let mut inputs = [0u16; MAX_INPUTS];
+    let mut kinds = [0u8; MAX_NODES];
+    let mut a = [0u16; MAX_NODES];
+    let mut b = [0u16; MAX_NODES];
+    let mut c = [0u16; MAX_NODES];
+    let mut values = [0i32; MAX_NODES];
     let answer = file::reader::read(
         file,
         &mut parameters,

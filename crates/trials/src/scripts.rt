@@ -2,6 +2,9 @@
 use crate::print;
 use script::Reading;
 use script::Verdict;
+use script::limits::MAX_INPUTS;
+use script::limits::MAX_NODES;
+use script::limits::MAX_TYPES;
 
 fn print_line(k: usize, number: u8, place: usize) {
     print::first(k);
@@ -18,14 +21,14 @@ fn print_verdict(k: usize, told: Verdict) {
 }
 
 pub(crate) fn try_script(k: usize, file: &[u8]) {
-    let mut parameters = [0u16; 64];
-    let mut results = [0u16; 64];
-    let mut inputs = [0u16; 16];
-    let mut kinds = [0u8; 4096];
-    let mut a = [0u16; 4096];
-    let mut b = [0u16; 4096];
-    let mut c = [0u16; 4096];
-    let mut values = [0i32; 4096];
+    let mut parameters = [0u16; MAX_TYPES];
+    let mut results = [0u16; MAX_TYPES];
+    let mut inputs = [0u16; MAX_INPUTS];
+    let mut kinds = [0u8; MAX_NODES];
+    let mut a = [0u16; MAX_NODES];
+    let mut b = [0u16; MAX_NODES];
+    let mut c = [0u16; MAX_NODES];
+    let mut values = [0i32; MAX_NODES];
     let answer = file::reader::read(
         file,
         &mut parameters,

@@ -2,7 +2,7 @@
 use borrow.Author.Needs.{needs}
 use mathlib.Core.Path.{sym, _∙_}
 use native.Mathlib.Omega.{arith}
-use Rattle.lambdamix.specs.Limits.{maxNodes}
+use Rattle.lambdamix.specs.Limits.{maxTypes, maxInputs, maxNodes}
 use Rattle.script.specs.Tables.{rowType, rowInput, rowNode}
 use Rattle.script.specs.Replies.{refusalOf}
 use Rattle.file.proofs.Searching.{found-below}
@@ -12,17 +12,19 @@ use Rattle.file.proofs.content.content_refusal.Statement.{statement}
 use Rattle.file.proofs.content.content_refusal.Tie as tie
 
 first-bad-type-requires : tie.Need-first-bad-type-requires
+unfolding maxTypes
 first-bad-type-requires c κs =
     let l = in-limits _ _ _ (sym (c .before .counts-right .ensures) ∙ c .if1 .taken) in
     omega (arith, l)
 
 first-bad-node-requires : tie.Need-first-bad-node-requires
-unfolding maxNodes
+unfolding maxTypes maxNodes
 first-bad-node-requires c κs =
     let l = in-limits _ _ _ (sym (c .before .before .before .before .counts-right .ensures) ∙ c .before .before .before .if1 .taken) in
     ((omega (arith, l), (omega (arith, l .nodes), omega (arith, l .nodes, c .before .before .before .before .before .before .before .before .before .before .before .before .before .pre .1))), c .before .before .before .before .before .before .before .before .before .before .before .before .before .pre .0)
 
 record-refusal-requires : tie.Need-record-refusal-requires
+unfolding maxTypes maxInputs maxNodes
 record-refusal-requires c κs =
     let l = in-limits _ _ _ (sym (c .before .before .before .before .before .before .before .counts-right .ensures) ∙ c .before .before .before .before .before .before .if1 .taken) in (
       (omega (arith, l .types), omega (arith, l .inputs)),

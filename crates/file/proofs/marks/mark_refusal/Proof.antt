@@ -2,6 +2,7 @@
 use borrow.Author.Needs.{needs}
 use mathlib.Core.Path.{_∙_}
 use native.Mathlib.Omega.{arith}
+use Rattle.lambdamix.specs.Limits.{maxTypes, maxInputs, maxNodes}
 use Rattle.script.specs.File.{typeOffset, inputOffset, nodeOffset}
 use Rattle.file.proofs.Searching.{found-below}
 use Rattle.file.proofs.ContentLaws.{in-limits}
@@ -10,24 +11,27 @@ use Rattle.file.proofs.marks.mark_refusal.Statement.{statement}
 use Rattle.file.proofs.marks.mark_refusal.Tie as tie
 
 first-unmarked-requires : tie.Need-first-unmarked-requires
-unfolding typeOffset
+unfolding maxTypes typeOffset
 first-unmarked-requires c κs = let l = in-limits _ _ _ (c .before .before .pre) in omega arith
 
 input-offset-requires : tie.Need-input-offset-requires
+unfolding maxTypes
 input-offset-requires c κs = let l = in-limits _ _ _ (c .before .before .before .pre) in omega arith
 
 first-unmarked-requires-2 : tie.Need-first-unmarked-requires-2
-unfolding inputOffset
+unfolding maxTypes maxInputs inputOffset
 first-unmarked-requires-2 c κs = let l = in-limits _ _ _ (c .before .before .before .before .pre) in omega arith
 
 node-offset-requires : tie.Need-node-offset-requires
+unfolding maxTypes maxInputs
 node-offset-requires c κs = let l = in-limits _ _ _ (c .before .before .before .before .before .pre) in omega arith
 
 first-unmarked-requires-3 : tie.Need-first-unmarked-requires-3
-unfolding nodeOffset
+unfolding maxTypes maxInputs maxNodes nodeOffset
 first-unmarked-requires-3 c κs = let l = in-limits _ _ _ (c .before .before .before .before .before .before .pre) in omega arith
 
 record-refusal-requires : tie.Need-record-refusal-requires
+unfolding maxTypes maxInputs maxNodes
 record-refusal-requires c κs =
     let l = in-limits _ _ _ (c .before .before .before .before .before .before .before .pre) in (
       (omega (arith, l .types), omega (arith, l .inputs)),

@@ -1,14 +1,17 @@
 -- `file::reader::body_refusal` meets its contract: its own columns hold the file's script. Assumes nothing.
 use mathlib.Core.Path.{refl, sym}
+use Rattle.lambdamix.specs.Limits.{maxTypes, maxInputs, maxNodes}
 use Rattle.file.proofs.ReaderLaws.{counts-here, own-fits, own-holds, body-by-records}
 use Rattle.file.proofs.reader.body_refusal.Statement.{statement}
 use Rattle.file.proofs.reader.body_refusal.Tie as tie
 
 fill-tables-requires : tie.Need-fill-tables-requires
+unfolding maxTypes maxInputs maxNodes
 fill-tables-requires c κs =
     own-fits _ _ (c .before .before .before .before .before .before .before .before .head-counts .ensures) (c .before .before .before .before .before .before .before .before .before .before .pre) refl refl refl refl refl refl refl refl
 
 records-refusal-requires : tie.Need-records-refusal-requires
+unfolding maxNodes
 records-refusal-requires c κs =
     let k = c .before .before .before .before .before .before .before .before .before .before .before .before .before .before .before .before .fill-tables .kept .1 .1 .1 .1 .1 in (
       counts-here _ (c .before .before .before .before .before .before .before .before .before .before .before .before .before .before .before .before .before .before .before .before .before .before .before .before .before .head-counts .ensures) (c .before .before .before .before .before .before .before .before .before .before .before .before .before .before .before .before .before .before .before .before .before .before .before .before .before .before .before .pre),

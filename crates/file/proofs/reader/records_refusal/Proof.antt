@@ -17,11 +17,11 @@ returns-2 : tie.Need-returns-2
 unfolding maxNodes
 returns-2 c =
     records-by-structure _ _ _ _ _ _ _ _ _ _ (c .before .before .before .before .before .before .before .before .mark-refusal .ensures) (c .before .before .before .before .before .before .content-refusal .ensures .0) (c .before .before .before .before .earlier .ensures) _
-    (c .before .before .enum-told .given .1) refl (c .before .before .before .before .before .before .content-refusal .ensures .1) (omega (arith, length-replicate {A = ℕ} 4096 0)) (c .structure-refusal .ensures)
+    (c .before .before .enum-told .given .1) refl (c .before .before .before .before .before .before .content-refusal .ensures .1) (omega (arith, length-replicate {A = ℕ} maxNodes 0)) (c .structure-refusal .ensures)
 
 content-refusal-requires : tie.Need-content-refusal-requires
 unfolding maxNodes
-content-refusal-requires c κs = (c .before .before .before .before .before .before .before .before .before .before .before .before .before .pre .1, omega (arith, length-replicate {A = ℕ} 4096 0))
+content-refusal-requires c κs = (c .before .before .before .before .before .before .before .before .before .before .before .before .before .pre .1, omega (arith, length-replicate {A = ℕ} maxNodes 0))
 
 pub records-refusal-spec : {M : Type 1} → statement M
 records-refusal-spec =

@@ -13,13 +13,13 @@ fewer : (n w : ℕ) → w < maxNodes → leb n w ≡ leb (min n maxNodes) w
 unfolding maxNodes
 fewer n w h = by (leb n w) refl
   where
-    by : (b : Bool) → leb n w ≡ b → b ≡ leb (min n 4096) w
-    by true e = sym (le-leb (min n 4096) w (omega (arith, leb-true n w e)))
-    by false e = sym (lt-leb (min n 4096) w (omega (arith, leb-false n w e)))
+    by : (b : Bool) → leb n w ≡ b → b ≡ leb (min n maxNodes) w
+    by true e = sym (le-leb (min n maxNodes) w (omega (arith, leb-true n w e)))
+    by false e = sym (lt-leb (min n maxNodes) w (omega (arith, leb-false n w e)))
 
 returns : tie.Need-returns
 unfolding maxNodes
-returns c = sym (le-leb (min (c .before .args .nodes) 4096) (c .before .args .words) (omega (arith, c .if1 .taken)))
+returns c = sym (le-leb (min (c .before .args .nodes) maxNodes) (c .before .args .words) (omega (arith, c .if1 .taken)))
 
 returns-2 : tie.Need-returns-2
 unfolding maxNodes

@@ -12,7 +12,7 @@ packed-refusal-requires c κs = omega (arith, c .before .if1 .taken, length-repl
 
 packed-refusal-requires-2 : tie.Need-packed-refusal-requires-2
 unfolding maxNodes
-packed-refusal-requires-2 c κs = omega (arith, length-replicate {A = ℕ} 4096 0)
+packed-refusal-requires-2 c κs = omega (arith, length-replicate {A = ℕ} maxNodes 0)
 
 returns : tie.Need-returns
 returns c = c .before .packed-refusal .ensures .0

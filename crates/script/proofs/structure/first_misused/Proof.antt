@@ -19,7 +19,7 @@ returns-2 : tie.Need-returns-2
 unfolding usedOnceAt maxNodes
 returns-2 c =
     c .first-not-one2 .ensures
-    ∙ first-same _ _ 0 _ (λ j l. counted-once _ 4096 _ (c .before .before .before .count-nodes2 .ensures) j (omega (arith, c .before .before .before .before .before .before .before .pre)))
+    ∙ first-same _ _ 0 _ (λ j l. counted-once _ maxNodes _ (c .before .before .before .count-nodes2 .ensures) j (omega (arith, c .before .before .before .before .before .before .before .pre)))
 
 pub first-misused-spec : {M : Type 1} → statement M
 first-misused-spec =

@@ -13,7 +13,7 @@ use Rattle.script.proofs.structure.scope_refusal.Tie as tie
 
 scope-requires : tie.Need-scope-requires
 unfolding maxHeight
-scope-requires c κs = ((c .before .before .before .pre .0, omega (arith, length-replicate {A = ℕ} 256 0)), omega (arith, c .before .before .before .pre .1))
+scope-requires c κs = ((c .before .before .before .pre .0, omega (arith, length-replicate {A = ℕ} maxHeight 0)), omega (arith, c .before .before .before .pre .1))
 
 returns : tie.Need-returns
 unfolding innermost refusalOf refusedAt

@@ -1,10 +1,12 @@
 -- `script::structure::tall_join` meets its contract: two heights, two places, or one of each. Assumes nothing.
 use native.Mathlib.Omega.{arith}
+use Rattle.lambdamix.specs.Limits.{maxHeight}
 use Rattle.script.proofs.Heights.{join-second, join-places-first, join-first, join-places-second}
 use Rattle.script.proofs.structure.tall_join.Statement.{statement}
 use Rattle.script.proofs.structure.tall_join.Tie as tie
 
 pub tall-join-spec : {M : Type 1} → statement M
+unfolding maxHeight
 tall-join-spec =
     tie.close
     (tie.spec

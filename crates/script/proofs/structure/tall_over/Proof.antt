@@ -1,11 +1,13 @@
 -- `script::structure::tall_over` meets its contract: the node's own height, and the lower of the places. Assumes nothing.
 use borrow.Author.Needs.{needs}
 use native.Mathlib.Omega.{arith}
+use Rattle.lambdamix.specs.Limits.{maxHeight}
 use Rattle.script.proofs.Heights.{node-low, node-crosses, node-passes-on, node-keeps-own}
 use Rattle.script.proofs.structure.tall_over.Statement.{statement}
 use Rattle.script.proofs.structure.tall_over.Tie as tie
 
 pub tall-over-spec : {M : Type 1} → statement M
+unfolding maxHeight
 tall-over-spec =
     tie.close
     (tie.spec
