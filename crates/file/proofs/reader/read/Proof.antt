@@ -1,6 +1,5 @@
 -- `file::reader::read` meets its contract: nothing is written unless the file has passed and the tables are long enough.
 -- Assumes nothing.
-use borrow.Author.Needs.{needs}
 use Rattle.file.proofs.ReaderLaws.{counted-fits, reads-by}
 use Rattle.file.proofs.reader.read.Statement.{statement}
 use Rattle.file.proofs.reader.read.Tie as tie
