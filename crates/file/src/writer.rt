@@ -183,7 +183,8 @@ fn emit(
     nodes_at(out, n, kinds, a, b, c, values);
 }
 
-fn file_size(n: Counts) -> usize
+// The length of a file with these counts.
+pub fn file_size(n: Counts) -> usize
     ensures { λ r. ⌜ r ≡ fileLength (n .types) (n .inputs) (n .nodes) ⌝ }
 {
     8 + 6 * (n.types as usize) + 4 * (n.inputs as usize) + 13 * (n.nodes as usize)

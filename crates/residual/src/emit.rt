@@ -151,8 +151,12 @@ fn finish_file(
     requires { ⌜ (nodes ≡ size (codeAt (now codes) p)) × (fits (codeAt (now codes) p) ≡ true) ⌝ }
     ensures { λ r. ⌜ ((s : Script) (k : ℕ) → s .inputs ≡ numbered (inputRow (now (inputs .entry))) 0 count → outcome r k (now (out .exit)) ≡ afterRun s (finished (codeAt (now (codes .entry)) p) k) (now (out .entry))) ⌝ }
 {
-    let length = 8 + 4 * (count as usize) + 13 * (nodes as usize);
-    if out.len() < length {
+    let n = Counts {
+        types: 0,
+        inputs: count,
+        nodes: nodes,
+    };
+    if out.len() < writer::file_size(n) {
         return Finish::Refused(Refusal {
             number: 21,
             place: 0,

@@ -11,6 +11,7 @@ use crate::settings::decode;
 use crate::settings::given_count;
 use crate::split::known;
 use file::reader::read;
+use file::writer::file_size;
 use printer::parts::least;
 use script::Counts;
 use script::Reading;
@@ -19,8 +20,6 @@ use script::limits::MAX_NODES;
 use script::limits::MAX_TYPES;
 use specializer::Reply;
 use specializer::make::make;
-ghost use mathlib.Core.Path.{_≡_};
-ghost use Rattle.script.specs.File.{fileLength};
 ghost use Rattle.script.specs.Columns.{tablesOf};
 ghost use Rattle.respond.specs.Stages.{MakesGiven, ListsFile, PrintsMade, AnswersScript};
 
@@ -105,19 +104,17 @@ fn list_file(file: &[u8], out: &mut [u8], at: usize) -> usize
     }
 }
 
-// The length of a file without types.
-fn made_length(inputs: u16, nodes: u16) -> usize
-    ensures { λ r. ⌜ r ≡ fileLength 0 inputs nodes ⌝ }
-{
-    8 + 4 * (inputs as usize) + 13 * (nodes as usize)
-}
-
 // Finished code, of a count of inputs, from the file that the maker wrote.
 fn print_made(inputs: u16, steps: u16, nodes: u16, file: &[u8], out: &mut [u8]) -> usize
     ensures { λ r. ⌜ PrintsMade inputs steps nodes (now (file .entry)) (now (out .entry)) (now (out .exit)) r ⌝ }
 {
     let first = 0;
-    let end = least(made_length(inputs, nodes), file.len());
+    let made = Counts {
+        types: 0,
+        inputs: inputs,
+        nodes: nodes,
+    };
+    let end = least(file_size(made), file.len());
     let at = print_counts(out, steps, nodes);
     list_file(&file[first..end], out, at)
 }

@@ -3,6 +3,7 @@
 // settings, and the script file.
 use crate::print;
 use file::bytes;
+use file::writer::file_size;
 use script::Counts;
 use script::Reading;
 use script::column;
@@ -58,15 +59,15 @@ fn print_reply(k: usize, number: u8, place: usize, steps: u16, nodes: u16, sum: 
     print::end();
 }
 
-// The file of made code: a head, the inputs, the nodes.
-fn file_length(inputs: u16, nodes: u16) -> usize {
-    8 + 4 * (inputs as usize) + 13 * (nodes as usize)
-}
-
 fn print_answer(k: usize, n: Counts, r: Reply, out: &[u8]) {
     match r {
         Reply::Made(steps, nodes) => {
-            let sum = sum_of(out, file_length(n.inputs, nodes));
+            let made = Counts {
+                types: 0,
+                inputs: n.inputs,
+                nodes: nodes,
+            };
+            let sum = sum_of(out, file_size(made));
             print_reply(k, 0, 0, steps, nodes, sum);
         }
         Reply::Unmade(f, steps) => print_reply(k, f.number, f.place, steps, 0, 0),

@@ -5,7 +5,7 @@ use Rattle.file.proofs.reader.read.Statement.{statement}
 use Rattle.file.proofs.reader.read.Tie as tie
 
 fill-tables-requires : tie.Need-fill-tables-requires
-fill-tables-requires c κs = counted-fits _ _ (c .before .before .before .before .before .before .before .before .before .before .before .check-file .result) (c .before .before .before .before .before .before .before .before .before .before .long-enough .ensures) (c .before .before .before .before .before .before .before .before .before .fills .ensures) (c .before .before .before .before .before .before .before .before .counted .ensures)
+fill-tables-requires c κs = counted-fits _ _ (c .before .before .before .before .before .before .before .before .before .before .before .check-file .result) (c .before .before .before .before .before .before .before .before .before .before .long-enough .ensures) (c .before .before .before .before .before .before .before .before .before .fills .ensures) (search (c .before .before .before .before .before .before .before .before .counted .ensures))
 
 returns : tie.Need-returns
 returns c =

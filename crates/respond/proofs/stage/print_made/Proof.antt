@@ -5,7 +5,7 @@ use Rattle.respond.proofs.stage.print_made.Statement.{statement}
 use Rattle.respond.proofs.stage.print_made.Tie as tie
 
 returns : tie.Need-returns
-returns c = made-printed (c .before .before .before .before .before .before .before .before .before .least .ensures) (c .before .before .before .before .before .before .before .before .before .before .made-length .ensures) (c .before .before .before .before .before .before .before .print-counts .kept .0) (c .before .before .before .before .before .before .before .print-counts .ensures) (c .before .before .list-file .ensures)
+returns c = made-printed (c .before .before .before .before .before .before .before .before .before .least .ensures) (c .before .before .before .before .before .before .before .before .before .before .file-size .ensures) (c .before .before .before .before .before .before .before .print-counts .kept .0) (c .before .before .before .before .before .before .before .print-counts .ensures) (c .before .before .list-file .ensures)
 
 pub print-made-spec : {M : Type 1} → statement M
 print-made-spec =

@@ -1,17 +1,29 @@
 -- `specializer::before::annotation_by` meets its contract: a bare run leaves the check out. Assumes nothing.
+use mathlib.Core.Path.{_≡_}
+use mathlib.Core.Bool.{Bool, true, false}
+use mathlib.Core.Option.{Option, none}
+use Rattle.lambdamix.specs.Script.{Script}
+use Rattle.lambdamix.specs.Checker.{Refusal, annotationRefusal}
 use Rattle.script.specs.Replies.{refusalOf}
 use Rattle.specializer.specs.Making.{annotationBy}
 use borrow.Author.Needs.{needs}
 use Rattle.specializer.proofs.before.annotation_by.Statement.{statement}
 use Rattle.specializer.proofs.before.annotation_by.Tie as tie
 
+bare-passes : (b : Bool) (s : Script) → b ≡ true → none ≡ annotationBy b s
+unfolding annotationBy
+bare-passes b s e = rw e
+
+checked : (b : Bool) (s : Script) {r : Option Refusal} → b ≡ false → r ≡ annotationRefusal s → r ≡ annotationBy b s
+unfolding annotationBy
+checked b s e h = rw e h
+
 returns : tie.Need-returns
-unfolding annotationBy refusalOf
-returns c = λ ks xs ys zs vs ok p. rw (c .if1 .taken)
+unfolding refusalOf
+returns c = λ ks xs ys zs vs ok p. bare-passes _ _ (search (c .if1 .taken))
 
 returns-2 : tie.Need-returns-2
-unfolding annotationBy
-returns-2 c = λ ks xs ys zs vs ok p. rw (c .before .before .if1 .left) (c .annotation-refusal .ensures .reply ks xs ys zs vs ok p)
+returns-2 c = λ ks xs ys zs vs ok p. checked _ _ (search (c .before .before .if1 .left)) (c .annotation-refusal .ensures .reply ks xs ys zs vs ok p)
 
 pub annotation-by-spec : {M : Type 1} → statement M
 annotation-by-spec = tie.close (tie.spec returns (λ c κs. search needs) returns-2)
