@@ -1,6 +1,6 @@
 -- The stack of binders and the context that it holds: what stays of it, what a binder adds, the inputs at its bottom, and that a name
 -- found on it has the type that the context gives. Assumes nothing.
-use Prim.Native.Nat.{ℕ, zero, suc, _+_, _-_, _*_, _/_, _%_, _≤_, _<_}
+use Prim.Native.Nat.{ℕ, zero, suc, _+_, _-_, _/_, _%_, _≤_, _<_}
 use mathlib.Core.Path.{_≡_, refl, sym, _∙_}
 use mathlib.Core.Bool.{Bool, true, false}
 use mathlib.Core.List.{List, [], _∷_}
@@ -18,7 +18,7 @@ use Rattle.lambdamix.specs.Checker.{typed, faulty, own, provided, varRule}
 use Rattle.script.specs.Refusals.{inputFits}
 use Rattle.annotation.specs.Answers.{pick, limit16, faultLimit, faultAnswer, typeBase, typeAnswer, typeIn, meaning, Stands, givenBy}
 use Rattle.annotation.specs.Walks.{Pair, Binds, no-binder, one-more, bound, Agree, Pushed}
-use Rattle.annotation.proofs.Passing.{Sound}
+use Rattle.script.proofs.Sound.{Sound}
 use Rattle.annotation.proofs.TypeNumbers.{type-zero, type-one}
 
 -- ---- answers
@@ -27,7 +27,7 @@ module _ (s : Script) (ok : Sound s) where
   pub type-stands : (t : ℕ) → t < typeCount s → Stands s (typeAnswer t) (typed (typeOf s t))
   unfolding meaning typeCount maxTypes
   type-stands t h =
-      let few = ok .few-types in
+      let few = ok .within .types in
       let e : typeIn (typeAnswer t) ≡ t = omega arith in
       record { said = rw (le-ltb (typeAnswer t) typeBase (omega arith), e); known = λ _. omega arith }
 

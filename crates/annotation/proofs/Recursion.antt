@@ -7,7 +7,7 @@ use native.Mathlib.Omega.{arith}
 use lib.Dec.{eqb}
 use lib.ListN.{length, getD}
 use Rattle.lambdamix.specs.Limits.{maxNodes}
-use Rattle.lambdamix.specs.Script.{Script, rows, rowOf, blankRow, nodeAt, nodeCount, fields, ifChild, childFields, children}
+use Rattle.lambdamix.specs.Script.{Script, rows, rowOf, blankRow, nodeAt, nodeCount, ifChild, childFields, children}
 use Rattle.lambdamix.specs.Term.{lam, dlam, childAt, build, terms, tree, height, heights}
 use Rattle.lambdamix.specs.Types.{typeOf, typeCount}
 use Rattle.lambdamix.specs.Typing.{Context, bind}
@@ -16,7 +16,7 @@ use Rattle.script.specs.Words.{wordKind, wordA, wordB, wordC}
 use Rattle.script.proofs.TreeForms.{All}
 use Rattle.annotation.specs.Answers.{pick, typeAnswer, Stands}
 use Rattle.annotation.specs.Walks.{Lent, Pair, Binds, bound, Agree, Pushed, Answers, ChildAnswers, OneChild, lifts, fixes, fixes-dynamic, TwoChildren, applies, operates, applies-dynamic, operates-dynamic, ThreeChildren, chooses, chooses-dynamic, BindsName, abstracts, abstracts-dynamic, WordOf, Stand, none-left, and-then, Ruled, BinderRuled}
-use Rattle.annotation.proofs.Passing.{sound}
+use Rattle.script.proofs.Sound.{sound}
 use Rattle.annotation.proofs.TypeNumbers.{type-zero}
 use Rattle.annotation.proofs.Trees.{Below, kind-known, below-parent, named-type, tree-node, tree-height, node-kind, node-field, node-children}
 use Rattle.annotation.proofs.Contexts.{type-stands, binds-agree, agree-refl, agree-trans, binds-more, bound-stands}
@@ -242,7 +242,7 @@ module _ {words ts stack : List ℕ} {d i w : ℕ} (o : w ≡ getD words i 0) wh
         let ok = sound s (l .passes) in
         let (x, _, _) = node-field l h o (λ z. omega arith) in
         rw (tree-node s ok i h, node-kind l h o, q, ← x, ← f, g (omega arith))
-        (bound-stands s ok i _ (omega (arith, ok .few-nodes)) b);
+        (bound-stands s ok i _ (omega (arith, ok .within .nodes)) b);
   }
 
   pub at-constant :

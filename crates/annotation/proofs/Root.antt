@@ -23,7 +23,8 @@ use Rattle.script.specs.Words.{Packed}
 use Rattle.script.proofs.RefusalLaws.{neither}
 use Rattle.annotation.specs.Answers.{scriptOf, Passes, pick, typeBase, typeIn, meaning, Stands, rootAnswer}
 use Rattle.annotation.specs.Walks.{Lists, Lent, Binds, stackPlaces, Bottom, Answers, Annotated}
-use Rattle.annotation.proofs.Passing.{Sound, passes-sound, type-count, input-count, node-count, type-row, input-row, node-row}
+use Rattle.script.proofs.Sound.{Sound}
+use Rattle.annotation.proofs.Passing.{passes-sound, type-count, input-count, node-count, type-row, input-row, node-row}
 use Rattle.annotation.proofs.TypeNumbers.{View, static, dynamic, arrow, view}
 use Rattle.annotation.proofs.Contexts.{inputs-bound}
 
@@ -78,11 +79,11 @@ at-root {n} {ps} {rs} {is} {words} {before} {i} {r} t b c e a q = record {
       let x = tablesOf ps rs is ks xs ys zs vs in
       let s = scriptOf n x in
       let sd = passes-sound n x ok in
-      let some = sd .some-node in
+      let some = sd .within .some-node in
       let m = node-count n x in
       let f : i ≡ nodeCount s - 1 = omega arith in
-      let lent = tables-lent n x ok p (t (omega (arith, type-count n x, sd .few-types))) in
-      let st = a .reply s _ lent (inputs-lent n x ok (b (omega (arith, input-count n x, sd .few-inputs)))) (omega arith)
-      (omega (arith, input-count n x, sd .few-inputs, sd .low i (omega arith))) in
+      let lent = tables-lent n x ok p (t (omega (arith, type-count n x, sd .within .types))) in
+      let st = a .reply s _ lent (inputs-lent n x ok (b (omega (arith, input-count n x, sd .within .inputs)))) (omega arith)
+      (omega (arith, input-count n x, sd .within .inputs, sd .low i (omega arith))) in
       q ∙ root-stands s sd i r st ∙ rw f;
 }

@@ -18,7 +18,7 @@ use Rattle.lambdamix.specs.Checker.{Checked, both, gather, rule, own, provided,
 use Rattle.lambdamix.proofs.Tests.{holds-or-fails}
 use Rattle.annotation.specs.Answers.{limit16, pairWord, typeBase, typeIn, Stands, givenBy, parameterOf, resultOf, applyAnswer, fixAnswer, lowest}
 use Rattle.annotation.specs.Walks.{Lent, Listing, listed-at, not-listed, OneChild, lifts, fixes, fixes-dynamic, TwoChildren, applies, operates, applies-dynamic, operates-dynamic, ThreeChildren, chooses, chooses-dynamic, Stand, none-left, and-then, Ruled, BinderRuled}
-use Rattle.annotation.proofs.Passing.{Sound, sound}
+use Rattle.script.proofs.Sound.{Sound, sound}
 use Rattle.annotation.proofs.TypeNumbers.{pair, parts, type-one, function-type, listed-pair, unlisted-pair, apply-numbers, fix-numbers, lift-numbers, if-numbers, op-numbers, dynamic-one, dynamic-two, dynamic-three, dynamic-function}
 use Rattle.annotation.proofs.Contexts.{type-stands, fault-stands, given-stands}
 use Rattle.annotation.proofs.Faults.{told, told-alone, told-gather, told-both, both-types, told-rule, typed-answer}
@@ -31,7 +31,7 @@ module _ {s : Script} {words ts : List ℕ} (lent : Lent s words ts) (i : ℕ) (
 
   small : i < limit16
   unfolding maxNodes
-  small = omega (arith, ok .few-nodes)
+  small = omega (arith, ok .within .nodes)
 
   -- a test on a function type's two numbers, and one of them, read from its word
   word-stands :
@@ -79,7 +79,7 @@ module _ {s : Script} {words ts : List ℕ} (lent : Lent s words ts) (i : ℕ) (
       Stands s r (own i (abstrRule s (typeOf s t) (typeOf s u)))
   unfolding abstrRule abstrBy own typeCount maxTypes
   function-stands {t} {u} (listed-at j l e) m k =
-      let few = ok .few-types in
+      let few = ok .within .types in
       ⊎-elim
       (λ b.
       let c : j < length (s .types) = ltb-true _ _ b in
@@ -92,7 +92,7 @@ module _ {s : Script} {words ts : List ℕ} (lent : Lent s words ts) (i : ℕ) (
       (λ b. let w = lent .types .past j (ltb-false _ _ b) l in let z : ⊥ = omega arith in absurd z)
       (holds-or-fails (ltb j (length (s .types))))
   function-stands {t} {u} (not-listed other) m k =
-      let few = ok .few-types in
+      let few = ok .within .types in
       rw (unlisted-pair s ok t u m k (λ j b p q. let w = lent .types .each j b in let v = w .high in let x = w .low in other j (omega arith) (omega arith)))
       (fault-stands s 10 i (omega arith) small)
 

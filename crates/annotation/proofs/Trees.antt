@@ -19,7 +19,7 @@ use Rattle.script.specs.Refusals.{fieldRight, fieldsRight, nodeFits}
 use Rattle.script.specs.Words.{wordKind, wordA, wordB, wordC, Holds}
 use Rattle.script.proofs.TreeForms.{All, high-row, heights-gathered}
 use Rattle.annotation.specs.Walks.{Lent}
-use Rattle.annotation.proofs.Passing.{Sound}
+use Rattle.script.proofs.Sound.{Sound}
 
 -- numbers below a node's
 abbrev pub Below : ℕ → List ℕ → Type 0

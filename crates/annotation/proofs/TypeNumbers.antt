@@ -15,11 +15,12 @@ use Rattle.lambdamix.specs.Script.{Script, FunctionType}
 use Rattle.lambdamix.specs.Falling.{falling, fallingBy}
 use Rattle.lambdamix.specs.Types.{Ty, S, D, _⇒_, sameType, blankType, typeBy, typeStep, typeOf, typeCount, someType, listed}
 use Rattle.lambdamix.specs.Checker.{provided, liftRule, applyRule, fixRule, ifRule, opRule, abstrDynRule, allDynamic, dynRule}
+use Rattle.lambdamix.proofs.Checking.{sameType-refl}
 use Rattle.lambdamix.proofs.Falling.{falling-step, below-at}
 use Rattle.lambdamix.proofs.Tests.{and-both, and-intro, or-cases, or-left, or-right, holds-or-fails}
 use Rattle.script.specs.Refusals.{samePair, otherPair, isNone, typeFits}
 use Rattle.script.proofs.RefusalLaws.{passes}
-use Rattle.annotation.proofs.Passing.{Sound}
+use Rattle.script.proofs.Sound.{Sound}
 
 no-type : (o : Option ℕ) → isNone o ≡ true → o ≡ none
 unfolding isNone
@@ -39,12 +40,6 @@ compared : (i j : ℕ) → (i ≡ j) ⊎ ((i < j) ⊎ (j < i))
 compared i j =
     ⊎-elim (λ e. ⊎-elim inl (λ w. inr (inl w)) (eq-or-lt-of-le (leb-true i j e))) (λ e. inr (inr (leb-false i j e)))
     (holds-or-fails (leb i j))
-
-pub same-refl : (t : Ty) → sameType t t ≡ true
-unfolding sameType
-same-refl S = refl
-same-refl D = refl
-same-refl (t ⇒ u) = and-intro (same-refl t) (same-refl u)
 
 some-type : (f : ℕ → Ty) (n : ℕ) (t : Ty) (k : ℕ) → k < n → sameType (f k) t ≡ true → someType f n t ≡ true
 unfolding someType
@@ -151,13 +146,13 @@ module _ (s : Script) (ok : Sound s) where
   pub same-number : (j k : ℕ) → j < typeCount s → k < typeCount s → sameType (typeOf s j) (typeOf s k) ≡ eqb j k
   same-number j k m l =
       same-tests _ _ (λ e. eq-eqb j k (one-number (suc j) j k (omega arith) m l e))
-      (λ e. rw (eqb-true j k e) (same-refl (typeOf s k)))
+      (λ e. rw (eqb-true j k e) (sameType-refl (typeOf s k)))
 
   -- Theorem: a function type is listed exactly if some record has the numbers of its parts.
   pub listed-pair : (j : ℕ) → j < length (s .types) → listed s (typeOf s (pair s j .parameter) ⇒ typeOf s (pair s j .result)) ≡ true
   unfolding listed typeCount
   listed-pair j h =
-      some-type (typeOf s) (2 + length (s .types)) _ (2 + j) (omega arith) (rw (function-type j h) (same-refl _))
+      some-type (typeOf s) (2 + length (s .types)) _ (2 + j) (omega arith) (rw (function-type j h) (sameType-refl _))
 
   pub unlisted-pair :
       (p r : ℕ) → p < typeCount s → r < typeCount s →

@@ -1,10 +1,10 @@
 // The checker: refusals 1 to 8 as the file of the tables, then 9 to 11.
 use crate::typing::annotation_refusal;
-use file::tables::tables_packed;
 use script::Counts;
 use script::Verdict;
 use script::limits::FEW_NODES;
 use script::limits::MAX_NODES;
+use tables::refusal::tables_packed;
 ghost use Prim.Native.Nat.{min, _≤_};
 ghost use mathlib.Core.Path.{_≡_};
 ghost use lib.ListN.{length};

@@ -11,6 +11,7 @@ use script::column::at16;
 use script::limits::MAX_HEIGHT;
 use script::limits::MAX_INPUTS;
 use script::limits::MAX_TYPES;
+use script::place::root;
 use script::word::field_a;
 use script::word::field_b;
 use script::word::field_c;
@@ -432,16 +433,6 @@ fn verdict(i: NodeNumber, r: u32) -> Verdict
         number: 11,
         place: i.0 as usize,
     })
-}
-
-// The root's number: the last node's.
-pub fn root(nodes: u16) -> NodeNumber
-    ensures { λ r. ⌜ r .0 ≡ nodes - 1 ⌝ }
-{
-    if 0 < nodes {
-        return NodeNumber(nodes - 1);
-    }
-    NodeNumber(0)
 }
 
 // Refusals 9, 10 and 11 of tables of which none of 1 to 8 holds.

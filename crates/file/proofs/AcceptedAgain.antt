@@ -2,7 +2,7 @@
 -- is accepted again, by ALL of refusals 1 to 11. Assumes nothing.
 use Prim.Native.Nat.{ℕ, _≤_}
 use mathlib.Core.Path.{_≡_, sym, subst⁻¹, _∙_}
-use mathlib.Core.Bool.{true, false, _&&_}
+use mathlib.Core.Bool.{true, false}
 use mathlib.Core.List.{List, []}
 use mathlib.Core.Option.{none}
 use mathlib.Core.Logic.{⊎-elim}
@@ -11,15 +11,15 @@ use native.Mathlib.Nat.{le-of-lt}
 use lib.IntN.{ℤ, pos}
 use lib.ListN.{length, getD, List·getD-eq-default}
 use lib.Dec.{leb, ltb}
-use borrow.Author.Tests.{leb-true, ltb-true, ltb-false}
-use Rattle.lambdamix.specs.Limits.{maxTypes, maxInputs, maxNodes, maxFuel}
+use borrow.Author.Tests.{leb-true, le-leb, ltb-true, ltb-false}
+use Rattle.lambdamix.specs.Limits.{maxInputs, maxNodes, maxFuel}
 use Rattle.lambdamix.specs.Script.{Script, Node, blankNode, nodeAt, inputCount}
 use Rattle.lambdamix.specs.Checker.{annotationRefusal}
 use Rattle.lambdamix.specs.Structure.{firstFailing, orElse, structureRefusal}
 use Rattle.lambdamix.specs.Code.{Code, fits, written}
 use Rattle.lambdamix.specs.Specializing.{specialized, finished}
 use Rattle.lambdamix.specs.Demand.{Accepted}
-use Rattle.lambdamix.proofs.Tests.{and-both, holds-or-fails}
+use Rattle.lambdamix.proofs.Tests.{holds-or-fails}
 use Rattle.lambdamix.proofs.Checking.{checker-accepts}
 use Rattle.lambdamix.proofs.Range.{Fits, CodeFits, code-in-range}
 use Rattle.lambdamix.proofs.Suits.{Scoped}
@@ -30,15 +30,10 @@ use Rattle.script.specs.File.{scriptIn, fileBytes}
 use Rattle.script.specs.Refusals.{inputFits, countsRight, contentOf, contentRefusal, scriptRefusal, fileRefusal}
 use Rattle.file.specs.Encodable.{AllBytes, Encodable}
 use Rattle.file.specs.AcceptedFile.{AcceptedFile}
+use Rattle.script.proofs.Sound.{sound}
 use Rattle.script.proofs.RefusalLaws.{neither, not-refused, pass-over, no-record, passes}
 use Rattle.file.proofs.FileLaws.{read-written, file-refusal, read-fits, written-read}
 use Rattle.file.proofs.WrittenContent.{sizes-right, each-good, written-counts, written-content}
-
-inputs-few : (t i n : ℕ) → countsRight t i n ≡ true → leb i maxInputs ≡ true
-unfolding countsRight
-inputs-few t i n e =
-    and-both (leb i maxInputs) (leb 1 n && leb n maxNodes)
-    (and-both (leb t maxTypes) (leb i maxInputs && (leb 1 n && leb n maxNodes)) e .1) .0
 
 -- what refusals 3 to 11 that are none say of a script
 module _ (s : Script) (passes-all : scriptRefusal s ≡ none) (annotated : annotationRefusal s ≡ none) where
@@ -56,7 +51,7 @@ module _ (s : Script) (passes-all : scriptRefusal s ≡ none) (annotated : annot
   script-accepted = record { structured = parts-pass .2; annotated = annotated }
 
   few-inputs : leb (length (s .inputs)) maxInputs ≡ true
-  few-inputs = inputs-few _ _ _ (parts-pass .0)
+  few-inputs = le-leb _ _ (sound s passes-all .within .inputs)
 
   inputs-right : firstFailing (inputFits (λ j. getD (s .inputs) j 0)) 0 (length (s .inputs)) ≡ none
   unfolding contentRefusal contentOf

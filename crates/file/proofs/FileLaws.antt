@@ -19,7 +19,8 @@ use Rattle.script.specs.Refusals.{refusedRecord, countsRight, contentRefusal, s
 use Rattle.file.specs.Encodable.{AllBytes, Encodable}
 use Rattle.file.proofs.ByteLaws.{Stands, stands-left, stands-right, stands-both, stands-self, stands-whole, word16-at, stands16, word16-small}
 use Rattle.script.proofs.RefusalLaws.{neither, no-earlier, not-refused, pass-over, no-record}
-use Rattle.file.proofs.RecordLaws.{readFrom, wrongMark, numbered-length, records-length, records-read, records-marked, records-written, records-fit}
+use Rattle.script.proofs.Numbered.{length-numbered}
+use Rattle.file.proofs.RecordLaws.{readFrom, wrongMark, records-length, records-read, records-marked, records-written, records-fit}
 use Rattle.file.proofs.Layouts.{begins-marked, mark-stands, typeLayout, inputLayout, nodeLayout}
 
 -- ---- the length
@@ -178,7 +179,7 @@ module _ (bs : List ℕ) (all : AllBytes bs) (right : Sound bs) where
   the-counts :
       (length (scriptIn bs .types) ≡ headTypes bs) × (length (scriptIn bs .inputs) ≡ headInputs bs) × (length (scriptIn bs .nodes) ≡ headNodes bs)
   unfolding scriptIn
-  the-counts = (numbered-length _ 0 (headTypes bs), numbered-length _ 0 (headInputs bs), numbered-length _ 0 (headNodes bs))
+  the-counts = (length-numbered _ 0 (headTypes bs), length-numbered _ 0 (headInputs bs), length-numbered _ 0 (headNodes bs))
 
   head-written : Stands bs 0 (headBytes (scriptIn bs))
   unfolding headBytes ascii bytes16 headTypes headInputs headNodes
@@ -219,9 +220,9 @@ pub read-fits : (bs : List ℕ) → AllBytes bs → Encodable (scriptIn bs)
 unfolding scriptIn typeOffset inputOffset nodeOffset nodeAt headTypes headInputs headNodes
 read-fits bs all =
     record {
-      typeCount = rw numbered-length (word16-small all 2);
-      inputCount = rw numbered-length (word16-small all 4);
-      nodeCount = rw numbered-length (word16-small all 6);
+      typeCount = rw length-numbered (word16-small all 2);
+      inputCount = rw length-numbered (word16-small all 4);
+      nodeCount = rw length-numbered (word16-small all 6);
       types = records-fit typeLayout 8 (headTypes bs) all;
       inputs = records-fit inputLayout (8 + 6 * headTypes bs) (headInputs bs) all;
       nodes = records-fit nodeLayout (8 + 6 * headTypes bs + 4 * headInputs bs) (headNodes bs) all;

@@ -2,12 +2,11 @@
 -- Assumes nothing.
 use Prim.Native.Nat.{ℕ, _+_, _*_, _<_}
 use mathlib.Core.Path.{_≡_, refl, sym, ap, _∙_}
-use mathlib.Core.Bool.{true, false}
+use mathlib.Core.Bool.{true}
 use mathlib.Core.List.{List, map}
 use native.Mathlib.Omega.{arith}
 use lib.IntN.{ℤ}
 use lib.ListN.{length, getD, drop, length-map, List·getD-append, List·getD-map}
-use lib.Seq.{ext-getD}
 use borrow.Author.Tests.{leb-true}
 use Rattle.lambdamix.specs.Script.{Script, FunctionType, Node, blankNode}
 use Rattle.lambdamix.specs.Types.{blankType}
@@ -17,8 +16,8 @@ use Rattle.script.specs.Bytes.{byteAt, word16, word32, signed32}
 use Rattle.script.specs.File.{numbered, typeOffset, inputOffset, nodeOffset, typeFrom, inputFrom, nodeFrom, headTypes, headInputs, headNodes, scriptIn}
 use Rattle.script.specs.Tables.{Tables, rowType, rowInput, rowNode, tablesScript, over, filled}
 use Rattle.script.specs.Columns.{tablesOf, enough}
-use Rattle.file.specs.Heads.{headCounts, scriptBy, FillFits, countedIf}
-use Rattle.file.proofs.Numbered.{length-numbered, row-at, numbered-same, map-numbered}
+use Rattle.file.specs.Heads.{headCounts, scriptBy, FillFits, noCounts}
+use Rattle.script.proofs.Numbered.{length-numbered, numbered-whole, numbered-same, map-numbered}
 
 -- ---- filled tables hold the script that filled them
 
@@ -30,10 +29,6 @@ over-at xs old d i h = List·getD-append xs (drop (length xs) old) d i h
 column-at : {A B : Type 0} (h : A → B) (xs : List A) (old : List B) (d : A) (i : ℕ) → i < length xs
     → getD (over (map h xs) old) i (h d) ≡ h (getD xs i d)
 column-at h xs old d i l = over-at (map h xs) old (h d) i (rw (length-map xs h) l) ∙ List·getD-map h xs i d
-
-rows-are : {A : Type 0} (f : ℕ → A) (d : A) (xs : List A) → ((i : ℕ) → i < length xs → f i ≡ getD xs i d) → numbered f 0 (length xs) ≡ xs
-rows-are f d xs h =
-    ext-getD d _ xs (length-numbered f 0 (length xs)) (λ i l. let k : i < length xs = rw (length-numbered f 0 (length xs)) at l in row-at f (length xs) d i k ∙ h i k)
 
 module _ (s : Script) (x : Tables) where
   type-row : (i : ℕ) → i < length (s .types) → rowType (filled s x) i ≡ getD (s .types) i blankType
@@ -67,9 +62,9 @@ module _ (s : Script) (x : Tables) where
   script-held =
       λ k.
       record {
-        types = rows-are (rowType (filled s x)) blankType (s .types) type-row k;
-        inputs = rows-are (rowInput (filled s x)) 0 (s .inputs) input-row k;
-        nodes = rows-are (rowNode (filled s x)) blankNode (s .nodes) node-row k;
+        types = numbered-whole (rowType (filled s x)) blankType (s .types) type-row k;
+        inputs = numbered-whole (rowInput (filled s x)) 0 (s .inputs) input-row k;
+        nodes = numbered-whole (rowNode (filled s x)) blankNode (s .nodes) node-row k;
       }
 
 -- Tables filled from a file hold the file's script.
@@ -162,9 +157,9 @@ module _ (n : Counts) (x : Tables) where
         values = leb-true _ _ (c .1);
       }
 
-  -- and all with nothing.
-  pub none-fits : FillFits (countedIf false n) x
-  none-fits = omega arith
+-- and all with nothing.
+pub none-fits : (x : Tables) → FillFits noCounts x
+none-fits x = omega arith
 
 -- ---- with what
 
@@ -174,6 +169,6 @@ unfolding headCounts scriptBy scriptIn
 by-head bs e = ap (λ (m : Counts). scriptBy m bs) e
 
 -- nothing leaves the tables as they were
-pub by-none : (bs : List ℕ) (n : Counts) (x : Tables) → filled (scriptBy (countedIf false n) bs) x ≡ x
+pub by-none : (bs : List ℕ) (x : Tables) → filled (scriptBy noCounts bs) x ≡ x
 unfolding filled scriptBy numbered over
-by-none bs n x = refl
+by-none bs x = refl

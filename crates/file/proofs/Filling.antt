@@ -9,7 +9,7 @@ use lib.ListN.{length, getD, drop, set, length-append, length-drop}
 use lib.Seq.{drop-cons, set-at, append-snoc}
 use Rattle.script.specs.File.{numbered}
 use Rattle.script.specs.Tables.{over}
-use Rattle.file.proofs.Numbered.{length-numbered}
+use Rattle.script.proofs.Numbered.{length-numbered}
 
 module _ {A : Type 0} (f : ℕ → A) where
   one-more : (i n : ℕ) → numbered f i (suc n) ≡ numbered f i n ++ (f (i + n) ∷ [])

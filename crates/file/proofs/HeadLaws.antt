@@ -8,7 +8,7 @@ use lib.ListN.{length}
 use lib.Dec.{leb, eqb}
 use Rattle.lambdamix.specs.Structure.{orElse, refusedUnless}
 use Rattle.script.specs.declared.Counts.{Counts}
-use Rattle.script.specs.File.{fileLength, nodeOffset, headTypes, headInputs, headNodes}
+use Rattle.script.specs.File.{fileLength, headTypes, headInputs, headNodes}
 use Rattle.script.specs.Refusals.{countsRight, headMarked, bodyRefusal, fileRefusal}
 use Rattle.file.specs.Heads.{headCounts, headRefusal}
 
@@ -35,9 +35,9 @@ module _ (bs : List ℕ) where
     unfolding headCounts
     counts-told p q = ap (λ (m : Counts). countsRight (m .types) (m .inputs) (m .nodes)) (sym e) ∙ sym p ∙ q
 
-    pub length-told : {o : ℕ} → o ≡ nodeOffset (n .types) (n .inputs) (n .nodes) → o ≡ fileLength (headTypes bs) (headInputs bs) (headNodes bs)
-    unfolding headCounts fileLength
-    length-told p = p ∙ ap (λ (m : Counts). nodeOffset (m .types) (m .inputs) (m .nodes)) e
+    pub length-told : {o : ℕ} → o ≡ fileLength (n .types) (n .inputs) (n .nodes) → o ≡ fileLength (headTypes bs) (headInputs bs) (headNodes bs)
+    unfolding headCounts
+    length-told p = p ∙ ap (λ (m : Counts). fileLength (m .types) (m .inputs) (m .nodes)) e
 
   -- The head's refusals come first.
   pub file-by-head : fileRefusal bs ≡ orElse (headRefusal bs) (bodyRefusal bs)

@@ -3,15 +3,9 @@ pub mod ByteLaws
 pub mod RecordLaws
 pub mod Layouts
 pub mod FileLaws
-pub mod Numbered
-pub mod Searching
-pub mod ContentLaws
-pub mod ScriptLaws
-pub mod ReachedOnce
 pub mod Filling
 pub mod MarkLaws
 pub mod HeadLaws
-pub mod PlaceLaws
 pub mod FillLaws
 pub mod ReaderLaws
 pub mod WritingLaws

@@ -1,49 +1,22 @@
 -- Records of a constant length, one after the other: the bytes of record j stand at size × j. Shown once for all kinds of
 -- records, over a layout. Assumes nothing.
 use Prim.Native.Nat.{ℕ, zero, suc, _+_, _*_, _<_}
-use mathlib.Core.Path.{_≡_, refl, sym, ap, _∙_, subst}
+use mathlib.Core.Path.{_≡_, sym, _∙_, subst}
 use mathlib.Core.Bool.{true}
 use mathlib.Core.List.{List, [], _∷_}
 use mathlib.Core.Option.{Option, none}
 use native.Mathlib.Nat.{mul-zero, mul-suc}
 use native.Mathlib.Omega.{arith}
 use lib.ListN.{length, getD, length-append}
-use lib.Seq.{ext-getD}
 use Rattle.lambdamix.specs.Structure.{firstFailing}
 use Rattle.script.specs.File.{records, numbered}
 use Rattle.script.specs.Refusals.{marked}
 use Rattle.file.specs.Encodable.{AllBytes}
 use Rattle.file.proofs.ByteLaws.{Stands, stands-left, stands-right, stands-both, stands-nil}
+use Rattle.script.proofs.Numbered.{length-numbered, row-at, numbered-whole}
 use Rattle.script.proofs.RefusalLaws.{all-pass, passes}
 
--- ---- things by their numbers
-
-pub numbered-length : {A : Type 0} (f : ℕ → A) (i n : ℕ) → length (numbered f i n) ≡ n
-unfolding numbered
-numbered-length f i zero = refl
-numbered-length f i (suc n) = ap suc (numbered-length f (suc i) n)
-
-numbered-from : {A : Type 0} (f : ℕ → A) (d : A) (i n j : ℕ) → j < n → getD (numbered f i n) j d ≡ f (i + j)
-unfolding numbered
-numbered-from f d i zero j l = let z : ⊥ = omega arith in absurd z
-numbered-from f d i (suc n) zero l = ap f (omega arith)
-numbered-from f d i (suc n) (suc j) l = numbered-from f d (suc i) n j (omega arith) ∙ ap f (omega arith)
-
-pub numbered-at : {A : Type 0} (f : ℕ → A) (d : A) (n j : ℕ) → j < n → getD (numbered f 0 n) j d ≡ f j
-numbered-at f d n j l = numbered-from f d 0 n j l ∙ ap f (omega arith)
-
--- a list is its things by their numbers
-numbered-whole :
-    {A : Type 0} (f : ℕ → A) (d : A) (xs : List A) → ((j : ℕ) → j < length xs → f j ≡ getD xs j d)
-    → numbered f 0 (length xs) ≡ xs
-numbered-whole f d xs h =
-    ext-getD d _ xs (numbered-length f 0 (length xs))
-    (λ j l.
-    let k : j < length xs = omega (arith, numbered-length f 0 (length xs)) in
-    numbered-at f d (length xs) j k ∙ h j k)
-
--- ---- a kind of records
-
+-- a kind of records
 pub record Layout (A : Type 0) : Type 1 where
   pub size : ℕ
   pub first : ℕ
@@ -121,13 +94,13 @@ module _ {A : Type 0} (L : Layout A) where
   records-written {bs} o n all e =
       records-stand o (readFrom bs o n)
       (λ j l.
-      let k : j < n = omega (arith, numbered-length (λ j. L .read bs (o + L .size * j)) 0 n) in
-      rw (numbered-at (λ j. L .read bs (o + L .size * j)) (L .blank) n j k)
+      let k : j < n = omega (arith, length-numbered (λ j. L .read bs (o + L .size * j)) 0 n) in
+      rw (row-at (λ j. L .read bs (o + L .size * j)) n (L .blank) j k)
       (L .writes (o + L .size * j) all (passes _ n e j k)))
 
   -- and these fit
   pub records-fit :
       {bs : List ℕ} (o n : ℕ) → AllBytes bs → (j : ℕ) → j < length (readFrom bs o n) → L .Fits (getD (readFrom bs o n) j (L .blank))
   records-fit {bs} o n all j l =
-      let k : j < n = omega (arith, numbered-length (λ j. L .read bs (o + L .size * j)) 0 n) in
-      rw (numbered-at (λ j. L .read bs (o + L .size * j)) (L .blank) n j k) (L .fits (o + L .size * j) all)
+      let k : j < n = omega (arith, length-numbered (λ j. L .read bs (o + L .size * j)) 0 n) in
+      rw (row-at (λ j. L .read bs (o + L .size * j)) n (L .blank) j k) (L .fits (o + L .size * j) all)

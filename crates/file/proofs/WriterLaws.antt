@@ -22,7 +22,8 @@ use Rattle.script.specs.File.{headBytes, typeBytes, inputBytes, nodeBytes, reco
 use Rattle.script.specs.Tables.{Tables, rowType, rowInput, rowNode, tablesScript, tablesRefusal, writeRefusal, writtenOutput}
 use Rattle.script.specs.Replies.{refusalOf, writing, Writes}
 use Rattle.file.specs.Written.{Put, Fitted, shortOutput, headRow}
-use Rattle.file.proofs.RecordLaws.{numbered-length, records-length}
+use Rattle.script.proofs.Numbered.{length-numbered}
+use Rattle.file.proofs.RecordLaws.{records-length}
 use Rattle.file.proofs.Layouts.{typeLayout, inputLayout}
 use Rattle.file.proofs.FileLaws.{file-length}
 use Rattle.file.proofs.WritingLaws.{put-both, put-over, put-same}
@@ -33,7 +34,7 @@ module _ (t i n : ℕ) (x : Tables) where
   unfolding tablesScript
   tables-length =
       file-length (tablesScript t i n x)
-      ∙ (λ y. fileLength (numbered-length (rowType x) 0 t y) (numbered-length (rowInput x) 0 i y) (numbered-length (rowNode x) 0 n y))
+      ∙ (λ y. fileLength (length-numbered (rowType x) 0 t y) (length-numbered (rowInput x) 0 i y) (length-numbered (rowNode x) 0 n y))
 
   the-head : headRow t i n ≡ headBytes (tablesScript t i n x)
   unfolding headRow headBytes tablesScript
@@ -41,8 +42,8 @@ module _ (t i n : ℕ) (x : Tables) where
       sym
       (λ y.
       ascii "HD"
-      ++ (bytes16 (numbered-length (rowType x) 0 t y)
-      ++ (bytes16 (numbered-length (rowInput x) 0 i y) ++ bytes16 (numbered-length (rowNode x) 0 n y))))
+      ++ (bytes16 (length-numbered (rowType x) 0 t y)
+      ++ (bytes16 (length-numbered (rowInput x) 0 i y) ++ bytes16 (length-numbered (rowNode x) 0 n y))))
 
   -- head, types, inputs and nodes, each put behind the other, are the file
   pub put-file :
@@ -52,8 +53,8 @@ module _ (t i n : ℕ) (x : Tables) where
   unfolding fileBytes tablesScript headBytes ascii bytes16
   put-file a b c d =
       put-both (put-same the-head a) refl
-      (put-both b (omega (arith, records-length typeLayout (numbered (rowType x) 0 t), numbered-length (rowType x) 0 t))
-      (put-both c (omega (arith, records-length inputLayout (numbered (rowInput x) 0 i), numbered-length (rowInput x) 0 i)) d))
+      (put-both b (omega (arith, records-length typeLayout (numbered (rowType x) 0 t), length-numbered (rowType x) 0 t))
+      (put-both c (omega (arith, records-length inputLayout (numbered (rowInput x) 0 i), length-numbered (rowInput x) 0 i)) d))
 
 -- ---- the answers
 

@@ -11,7 +11,8 @@ use lib.Seq.{sets, sets-eq, set-out, length-sets}
 use Rattle.script.specs.File.{records, numbered}
 use Rattle.script.specs.Tables.{over}
 use Rattle.file.specs.Written.{Put, PutWhole}
-use Rattle.file.proofs.RecordLaws.{Layout, records-length, numbered-length}
+use Rattle.script.proofs.Numbered.{length-numbered}
+use Rattle.file.proofs.RecordLaws.{Layout, records-length}
 
 -- ---- bytes
 
@@ -94,7 +95,7 @@ put-record :
     → Put k (o + L .size * j) (L .write (g j)) m → Put l o (records (L .write) (numbered g 0 (j + 1))) m
 put-record L g o j p q =
     let e : L .size * j ≡ length (records (L .write) (numbered g 0 j)) =
-    sym (records-length L (numbered g 0 j) ∙ ap (λ (n : ℕ). L .size * n) (numbered-length g 0 j)) in
+    sym (records-length L (numbered g 0 j) ∙ ap (λ (n : ℕ). L .size * n) (length-numbered g 0 j)) in
     rw (records-one-more (L .write) g j) (put-both p (ap (λ (n : ℕ). o + n) e) q)
 
 -- ---- a loop that puts records from o on: after j of n

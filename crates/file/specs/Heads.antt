@@ -1,23 +1,21 @@
--- The parts of the reader: a head's counts and refusals, the refusals of records that stand in tables, and what fills tables.
--- Assumes nothing.
+-- The parts of the reader: a head's counts and refusals, the refusals of marks beside those of tables, and what fills tables. Assumes
+-- nothing.
 use Prim.Native.Nat.{ℕ, _≤_}
-use mathlib.Core.Bool.{Bool, true, false}
+use mathlib.Core.Bool.{Bool, _&&_}
 use mathlib.Core.List.{List}
-use mathlib.Core.Option.{Option}
+use mathlib.Core.Option.{Option, none, some}
 use lib.ListN.{length}
-use lib.Dec.{leb, eqb}
+use lib.Dec.{leb, ltb, eqb}
 use Rattle.lambdamix.specs.Script.{Script}
 use Rattle.lambdamix.specs.Checker.{Refusal}
-use Rattle.lambdamix.specs.Structure.{orElse, structureRefusal, refusedUnless}
+use Rattle.lambdamix.specs.Structure.{orElse, refusedUnless}
 use Rattle.script.specs.declared.Counts.{Counts}
-use Rattle.script.specs.declared.Verdict.{Verdict}
-use Rattle.script.specs.declared.Verdict.the-variants as Verdict
 use Rattle.script.specs.declared.Reading.{Reading}
 use Rattle.script.specs.declared.Reading.the-variants as Reading
 use Rattle.script.specs.File.{numbered, typeOffset, inputOffset, nodeOffset, typeFrom, inputFrom, nodeFrom, fileLength, headTypes, headInputs, headNodes}
-use Rattle.script.specs.Tables.{Tables, tablesScript}
-use Rattle.script.specs.Columns.{contentIn}
-use Rattle.script.specs.Refusals.{headMarked, countsRight, markRefusal, earlier}
+use Rattle.script.specs.Tables.{Tables}
+use Rattle.script.specs.Replies.{reading}
+use Rattle.script.specs.Refusals.{headMarked, countsRight, earlierBy, fileRefusal}
 
 unfoldable pub headCounts : List ℕ → Counts
 headCounts bs = record { types = headTypes bs; inputs = headInputs bs; nodes = headNodes bs }
@@ -30,11 +28,12 @@ headRefusal bs =
     (orElse (refusedUnless (countsRight (headTypes bs) (headInputs bs) (headNodes bs)) 3 0)
     (refusedUnless (eqb (length bs) (fileLength (headTypes bs) (headInputs bs) (headNodes bs))) 1 (length bs))))
 
--- refusals 2 to 8 of a file whose records the first places of tables hold: "records in order, mark first; 6, 7, 8"
-unfoldable pub recordsRefusal : List ℕ → Counts → Tables → Option Refusal
-recordsRefusal bs n x =
-    orElse (earlier (markRefusal bs (n .types) (n .inputs) (n .nodes)) (contentIn (n .types) (n .inputs) (n .nodes) x))
-    (structureRefusal (tablesScript (n .types) (n .inputs) (n .nodes) x))
+-- of a wrong mark and what the tables are refused by, "records in order, mark first; 6, 7, 8": a bad record (3 to 5) at a lower offset
+-- comes first, all else after the mark
+unfoldable pub marksFirst : Option Refusal → Option Refusal → Option Refusal
+marksFirst none r = r
+marksFirst (some e) none = some e
+marksFirst (some e) (some f) = earlierBy (ltb (f .number) 6 && ltb (f .place) (e .place)) f e
 
 -- the records of a file by counts
 unfoldable pub scriptBy : Counts → List ℕ → Script
@@ -56,21 +55,14 @@ pub record FillFits (n : Counts) (x : Tables) : Type 0 where
   pub c : n .nodes ≤ length (x .c)
   pub values : n .nodes ≤ length (x .values)
 
--- tables are filled from a file that has passed, if they are long enough
-abbrev pub fills : Verdict → Bool → Bool
-fills Verdict.Passed long = long
-fills (Verdict.Refused f) long = false
+-- the reader's reply, by whether the tables are long enough
+unfoldable pub readReply : List ℕ → Bool → Reading
+readReply bs long = reading (orElse (fileRefusal bs) (refusedUnless long 21 0)) bs
 
--- counts where a test holds, else none
-abbrev pub countedIf : Bool → Counts → Counts
-countedIf true n = n
-countedIf false n = record { types = 0; inputs = 0; nodes = 0 }
+abbrev pub noCounts : Counts
+noCounts = record { types = 0; inputs = 0; nodes = 0 }
 
-abbrev pub readBy : Bool → Counts → Reading
-readBy true n = Reading.Read n
-readBy false n = Reading.Refused (record { number = 21; place = 0 })
-
--- the reply by the file's verdict and whether the tables are filled
-abbrev pub replyBy : Verdict → Bool → Counts → Reading
-replyBy Verdict.Passed full n = readBy full n
-replyBy (Verdict.Refused f) full n = Reading.Refused f
+-- the counts of what is filled in: all that was read, or nothing
+abbrev pub countsRead : Reading → Counts
+countsRead (Reading.Read n) = n
+countsRead (Reading.Refused f) = noCounts

@@ -3,4 +3,3 @@ pub mod Encodable
 pub mod Written
 pub mod AcceptedFile
 pub mod FileTrials
-pub mod PackedTables

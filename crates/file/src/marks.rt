@@ -1,56 +1,67 @@
 // Marks of records: refusal 2.
 use crate::fill::place;
-use crate::records::input_offset;
-use crate::records::node_offset;
-use crate::records::record_refusal;
-use crate::records::type_offset;
-use script::Found;
+use script::Counts;
+use script::Refusal;
 use script::Verdict;
 use script::column::at8;
+use script::place::input_offset;
+use script::place::node_offset;
+use script::place::type_offset;
 ghost use mathlib.Core.Path.{_≡_};
-ghost use mathlib.Core.Bool.{true};
-ghost use Prim.Native.Nat.{_+_, _*_, _<_};
+ghost use Prim.Native.Nat.{_+_, _*_};
 ghost use Rattle.lambdamix.specs.Structure.{firstFailing};
-ghost use Rattle.script.specs.Refusals.{marked, countsRight, markRefusal};
-ghost use Rattle.script.specs.Replies.{foundAt, refusalOf};
-ghost use Rattle.script.specs.Columns.{Spaced};
+ghost use Rattle.script.specs.Refusals.{marked, refusedRecord, markRefusal};
+ghost use Rattle.script.specs.Replies.{refusalOf};
 
-// Whether the two letters stand at a place.
-pub(crate) fn marked(file: &[u8], at: usize, x: u8, y: u8) -> bool
-    requires { ⌜ 0 < x ⌝ }
+// Whether the two letters stand at a place; past the end stand zeros.
+pub fn marked(file: &[u8], at: usize, x: u8, y: u8) -> bool
     ensures { λ r. ⌜ r ≡ marked x y (now (file .entry)) at ⌝ }
 {
-    if at < file.len() {
-        if at8(file, at) == x {
-            return at8(file, at + 1) == y;
+    if file.len() <= at {
+        if x == 0 {
+            return y == 0;
         }
+        return false;
+    }
+    if at8(file, at) == x {
+        return at8(file, at + 1) == y;
     }
     false
 }
 
 // The first record without its mark, of records at equal distances.
-fn first_unmarked(file: &[u8], first: usize, stride: usize, count: usize, x: u8, y: u8) -> Found
-    requires { ⌜ Spaced first stride count ⌝ }
-    requires { ⌜ 0 < x ⌝ }
-    ensures { λ r. ⌜ foundAt r ≡ firstFailing (λ j. marked x y (now (file .entry)) (first + stride * j)) 0 count ⌝ }
+fn unmarked(file: &[u8], first: u32, stride: u8, count: u16, x: u8, y: u8) -> Verdict
+    ensures { λ r. ⌜ refusalOf r ≡ refusedRecord 2 (λ j. first + stride * j + 0) (firstFailing (λ j. marked x y (now (file .entry)) (first + stride * j + 0)) 0 count) ⌝ }
 {
-    let mut j = 0;
+    let mut j: u16 = 0;
     while j < count {
-        if marked(file, place(first, stride, j), x, y) {
+        let at = place(first, stride, j, 0);
+        if marked(file, at, x, y) {
             j += 1;
         } else {
-            return Found::At(j);
+            return Verdict::Refused(Refusal {
+                number: 2,
+                place: at,
+            });
         }
     }
-    Found::Nowhere
+    Verdict::Passed
 }
 
-pub(crate) fn mark_refusal(file: &[u8], types: usize, inputs: usize, nodes: usize) -> Verdict
-    requires { ⌜ countsRight types inputs nodes ≡ true ⌝ }
-    ensures { λ r. ⌜ refusalOf r ≡ markRefusal (now (file .entry)) types inputs nodes ⌝ }
+// The marks of types, inputs and nodes, in this order.
+pub(crate) fn mark_refusal(file: &[u8], n: Counts) -> Verdict
+    ensures { λ r. ⌜ refusalOf r ≡ markRefusal (now (file .entry)) (n .types) (n .inputs) (n .nodes) ⌝ }
 {
-    let bad_type = first_unmarked(file, type_offset(0), 6, types, b'T', b'Y');
-    let bad_input = first_unmarked(file, input_offset(types, 0), 4, inputs, b'I', b'N');
-    let bad_node = first_unmarked(file, node_offset(types, inputs, 0), 13, nodes, b'N', b'D');
-    record_refusal(types, inputs, 2, 2, bad_type, bad_input, bad_node)
+    match unmarked(file, type_offset(0), 6, n.types, b'T', b'Y') {
+        Verdict::Refused(f) => Verdict::Refused(f),
+        Verdict::Passed => {
+            match unmarked(file, input_offset(n.types, 0), 4, n.inputs, b'I', b'N') {
+                Verdict::Refused(f) => Verdict::Refused(f),
+                Verdict::Passed => {
+                    let nodes_at = node_offset(n.types, n.inputs, 0);
+                    unmarked(file, nodes_at, 13, n.nodes, b'N', b'D')
+                }
+            }
+        }
+    }
 }

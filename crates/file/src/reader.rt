@@ -1,15 +1,10 @@
 // The reader: refusals 1 to 8 of a file, then its records into lent tables.
 use crate::bytes::word16;
-use crate::content::content_refusal;
 use crate::fill::fill8;
 use crate::fill::fill16;
 use crate::fill::fill32;
 use crate::marks::mark_refusal;
 use crate::marks::marked;
-use crate::records::input_offset;
-use crate::records::node_offset;
-use crate::records::type_offset;
-use crate::tables::long_enough;
 use script::Counts;
 use script::Reading;
 use script::Refusal;
@@ -18,19 +13,23 @@ use script::limits::MAX_INPUTS;
 use script::limits::MAX_NODES;
 use script::limits::MAX_TYPES;
 use script::limits::counts_right;
-use script::structure::structure_refusal;
+use script::place::file_size;
+use script::place::input_offset;
+use script::place::node_offset;
+use script::place::type_offset;
+use tables::refusal::long_enough;
+use tables::refusal::tables_refusal;
 ghost use mathlib.Core.Path.{_≡_};
 ghost use mathlib.Core.Bool.{true};
 ghost use Rattle.script.specs.Replies.{refusalOf, Reads};
-ghost use Rattle.file.specs.Heads.{headCounts, headRefusal, recordsRefusal, scriptBy, FillFits, fills, countedIf, replyBy};
-ghost use Rattle.file.specs.PackedTables.{HoldNodes};
 ghost use Rattle.script.specs.File.{headTypes, headInputs, headNodes};
-ghost use Rattle.script.specs.Refusals.{countsRight, earlier, bodyRefusal, fileRefusal};
+ghost use Rattle.script.specs.Refusals.{countsRight, bodyRefusal, fileRefusal};
 ghost use Rattle.script.specs.Tables.{filled};
-ghost use Rattle.script.specs.Columns.{tablesOf};
+ghost use Rattle.script.specs.Columns.{tablesOf, enough};
+ghost use Rattle.file.specs.Heads.{headCounts, headRefusal, marksFirst, scriptBy, FillFits, readReply, countsRead};
 
 // The counts in a file's head.
-fn head_counts(file: &[u8]) -> Counts
+pub fn head_counts(file: &[u8]) -> Counts
     ensures { λ r. ⌜ r ≡ headCounts (now (file .entry)) ⌝ }
 {
     Counts {
@@ -53,11 +52,8 @@ fn head_refusal(file: &[u8]) -> Verdict
     }
     if marked(file, 0, b'H', b'D') {
         let n = head_counts(file);
-        let types = n.types as usize;
-        let inputs = n.inputs as usize;
-        let nodes = n.nodes as usize;
-        if counts_right(types, inputs, nodes) {
-            if length == node_offset(types, inputs, nodes) {
+        if counts_right(n) {
+            if length == file_size(n) {
                 return Verdict::Passed;
             }
             return Verdict::Refused(Refusal {
@@ -92,80 +88,36 @@ fn fill_tables(
     requires { ⌜ FillFits n (tablesOf (now parameters) (now results) (now inputs) (now kinds) (now a) (now b) (now c) (now values)) ⌝ }
     ensures { λ r. ⌜ tablesOf (now (parameters .exit)) (now (results .exit)) (now (inputs .exit)) (now (kinds .exit)) (now (a .exit)) (now (b .exit)) (now (c .exit)) (now (values .exit)) ≡ filled (scriptBy n (now (file .entry))) (tablesOf (now (parameters .entry)) (now (results .entry)) (now (inputs .entry)) (now (kinds .entry)) (now (a .entry)) (now (b .entry)) (now (c .entry)) (now (values .entry))) ⌝ }
 {
-    let type_count = n.types as usize;
-    let input_count = n.inputs as usize;
-    let node_count = n.nodes as usize;
     let types_at = type_offset(0);
-    let inputs_at = input_offset(type_count, 0);
-    let nodes_at = node_offset(type_count, input_count, 0);
-    fill16(file, types_at, 6, 2, type_count, parameters);
-    fill16(file, types_at, 6, 4, type_count, results);
-    fill16(file, inputs_at, 4, 2, input_count, inputs);
-    fill8(file, nodes_at, 13, 2, node_count, kinds);
-    fill16(file, nodes_at, 13, 3, node_count, a);
-    fill16(file, nodes_at, 13, 5, node_count, b);
-    fill16(file, nodes_at, 13, 7, node_count, c);
-    fill32(file, nodes_at, 13, 9, node_count, values);
+    let inputs_at = input_offset(n.types, 0);
+    let nodes_at = node_offset(n.types, n.inputs, 0);
+    fill16(file, types_at, 6, 2, n.types, parameters);
+    fill16(file, types_at, 6, 4, n.types, results);
+    fill16(file, inputs_at, 4, 2, n.inputs, inputs);
+    fill8(file, nodes_at, 13, 2, n.nodes, kinds);
+    fill16(file, nodes_at, 13, 3, n.nodes, a);
+    fill16(file, nodes_at, 13, 5, n.nodes, b);
+    fill16(file, nodes_at, 13, 7, n.nodes, c);
+    fill32(file, nodes_at, 13, 9, n.nodes, values);
 }
 
-// Of a wrong mark and a bad record the one at the lower offset, the mark at one record.
-fn earlier(e: Verdict, f: Verdict) -> Verdict
-    ensures { λ r. ⌜ refusalOf r ≡ earlier (refusalOf e) (refusalOf f) ⌝ }
+// Of a wrong mark and what the tables are refused by: a bad record (3 to 5) at a lower offset, else the mark.
+fn marks_first(e: Verdict, f: Verdict) -> Verdict
+    ensures { λ r. ⌜ refusalOf r ≡ marksFirst (refusalOf e) (refusalOf f) ⌝ }
 {
     match e {
         Verdict::Passed => f,
         Verdict::Refused(x) => match f {
             Verdict::Passed => Verdict::Refused(x),
             Verdict::Refused(y) => {
-                if x.place <= y.place {
-                    Verdict::Refused(x)
-                } else {
-                    Verdict::Refused(y)
+                if y.number < 6 {
+                    if y.place < x.place {
+                        return Verdict::Refused(y);
+                    }
                 }
+                Verdict::Refused(x)
             }
         },
-    }
-}
-
-// "records in order, mark first; 6, 7, 8": refusals 2 to 8 of a file whose records stand in columns.
-fn records_refusal(
-    file: &[u8],
-    n: Counts,
-    parameters: &[u16],
-    results: &[u16],
-    input_types: &[u16],
-    kinds: &[u8],
-    a: &[u16],
-    b: &[u16],
-    c: &[u16],
-    values: &[i32],
-) -> Verdict
-    requires { ⌜ countsRight (n .types) (n .inputs) (n .nodes) ≡ true ⌝ }
-    requires { ⌜ HoldNodes (n .nodes) (now kinds) (now a) (now b) (now c) (now values) ⌝ }
-    ensures { λ r. ⌜ refusalOf r ≡ recordsRefusal (now (file .entry)) n (tablesOf (now (parameters .entry)) (now (results .entry)) (now («input_types» .entry)) (now (kinds .entry)) (now (a .entry)) (now (b .entry)) (now (c .entry)) (now (values .entry))) ⌝ }
-{
-    let types = n.types as usize;
-    let inputs = n.inputs as usize;
-    let nodes = n.nodes as usize;
-    let marks = mark_refusal(file, types, inputs, nodes);
-    let mut words = [0u64; MAX_NODES];
-    let content = content_refusal(
-        types,
-        inputs,
-        nodes,
-        parameters,
-        results,
-        input_types,
-        kinds,
-        a,
-        b,
-        c,
-        values,
-        &mut words,
-    );
-    match earlier(marks, content) {
-        Verdict::Refused(f) => Verdict::Refused(f),
-        Verdict::Passed => structure_refusal(&words, inputs, nodes),
     }
 }
 
@@ -175,6 +127,7 @@ fn body_refusal(file: &[u8]) -> Verdict
     ensures { λ r. ⌜ refusalOf r ≡ bodyRefusal (now (file .entry)) ⌝ }
 {
     let n = head_counts(file);
+    let marks = mark_refusal(file, n);
     let mut parameters = [0u16; MAX_TYPES];
     let mut results = [0u16; MAX_TYPES];
     let mut inputs = [0u16; MAX_INPUTS];
@@ -195,8 +148,7 @@ fn body_refusal(file: &[u8]) -> Verdict
         &mut c,
         &mut values,
     );
-    records_refusal(
-        file,
+    let told = tables_refusal(
         n,
         &parameters,
         &results,
@@ -206,7 +158,8 @@ fn body_refusal(file: &[u8]) -> Verdict
         &b,
         &c,
         &values,
-    )
+    );
+    marks_first(marks, told)
 }
 
 // Refusals 1 to 8 of a file.
@@ -219,46 +172,46 @@ pub fn check_file(file: &[u8]) -> Verdict
     }
 }
 
-// Whether the lent tables are filled: the file has passed, and they are long enough for it.
-fn fills(v: Verdict, long: bool) -> bool
-    ensures { λ r. ⌜ r ≡ fills v long ⌝ }
+// The reply, by the lengths of the lent columns: the file's refusal, then 21 where they are too short.
+fn reply(
+    file: &[u8],
+    parameters: usize,
+    results: usize,
+    inputs: usize,
+    kinds: usize,
+    a: usize,
+    b: usize,
+    c: usize,
+    values: usize,
+) -> Reading
+    ensures { λ r. ⌜ r ≡ readReply (now (file .entry)) (enough (headTypes (now (file .entry))) (headInputs (now (file .entry))) (headNodes (now (file .entry))) parameters results inputs kinds a b c values) ⌝ }
 {
-    match v {
-        Verdict::Passed => long,
-        Verdict::Refused(_) => false,
+    match check_file(file) {
+        Verdict::Refused(f) => Reading::Refused(f),
+        Verdict::Passed => {
+            let n = head_counts(file);
+            if long_enough(n, parameters, results, inputs, kinds, a, b, c, values) {
+                return Reading::Read(n);
+            }
+            Reading::Refused(Refusal {
+                number: 21,
+                place: 0,
+            })
+        }
     }
 }
 
 // The counts of what is filled in: all or nothing.
-fn counted(full: bool, n: Counts) -> Counts
-    ensures { λ r. ⌜ r ≡ countedIf full n ⌝ }
+fn counts_read(r: Reading) -> Counts
+    ensures { λ n. ⌜ n ≡ countsRead r ⌝ }
 {
-    if full {
-        return n;
-    }
-    Counts {
-        types: 0,
-        inputs: 0,
-        nodes: 0,
-    }
-}
-
-// The reply: the file's refusal, then 21 where the tables were not filled.
-fn reply(v: Verdict, full: bool, n: Counts) -> Reading
-    ensures { λ r. ⌜ r ≡ replyBy v full n ⌝ }
-{
-    match v {
-        Verdict::Refused(f) => Reading::Refused(f),
-        Verdict::Passed => {
-            if full {
-                Reading::Read(n)
-            } else {
-                Reading::Refused(Refusal {
-                    number: 21,
-                    place: 0,
-                })
-            }
-        }
+    match r {
+        Reading::Read(n) => n,
+        Reading::Refused(_) => Counts {
+            types: 0,
+            inputs: 0,
+            nodes: 0,
+        },
     }
 }
 
@@ -276,10 +229,8 @@ pub fn read(
 ) -> Reading
     ensures { λ r. ⌜ Reads (now (file .entry)) (tablesOf (now (parameters .entry)) (now (results .entry)) (now (inputs .entry)) (now (kinds .entry)) (now (a .entry)) (now (b .entry)) (now (c .entry)) (now (values .entry))) (tablesOf (now (parameters .exit)) (now (results .exit)) (now (inputs .exit)) (now (kinds .exit)) (now (a .exit)) (now (b .exit)) (now (c .exit)) (now (values .exit))) r ⌝ }
 {
-    let n = head_counts(file);
-    let told = check_file(file);
-    let long = long_enough(
-        n,
+    let r = reply(
+        file,
         parameters.len(),
         results.len(),
         inputs.len(),
@@ -289,8 +240,7 @@ pub fn read(
         c.len(),
         values.len(),
     );
-    let full = fills(told, long);
-    let m = counted(full, n);
-    fill_tables(file, m, parameters, results, inputs, kinds, a, b, c, values);
-    reply(told, full, n)
+    let n = counts_read(r);
+    fill_tables(file, n, parameters, results, inputs, kinds, a, b, c, values);
+    r
 }

@@ -1,14 +1,14 @@
 // The writer of script files. A part is put at a place of the output; past the end nothing is put, of a node nothing at all.
-use crate::tables;
 use script::Counts;
 use script::Refusal;
 use script::Verdict;
 use script::Writing;
 use script::column;
+use script::place::file_size;
 use script::word::bits;
+use tables::refusal::tables_refusal;
 ghost use Prim.Native.Nat.{_+_, _*_, _≤_};
 ghost use lib.ListN.{length};
-ghost use mathlib.Core.Path.{_≡_};
 ghost use mathlib.Core.List.{[], _∷_};
 ghost use Rattle.script.specs.Bytes.{bytes16, bytes32};
 ghost use Rattle.script.specs.File.{typeBytes, inputBytes, nodeBytes, records, numbered, fileBytes, fileLength};
@@ -183,13 +183,6 @@ fn emit(
     nodes_at(out, n, kinds, a, b, c, values);
 }
 
-// The length of a file with these counts.
-pub fn file_size(n: Counts) -> usize
-    ensures { λ r. ⌜ r ≡ fileLength (n .types) (n .inputs) (n .nodes) ⌝ }
-{
-    8 + 6 * (n.types as usize) + 4 * (n.inputs as usize) + 13 * (n.nodes as usize)
-}
-
 // The file if the output has room for it, else 21.
 fn fit(
     n: Counts,
@@ -232,8 +225,7 @@ pub fn write(
 ) -> Writing
     ensures { λ r. ⌜ Writes n (record { parameters = now (parameters .entry); results = now (results .entry); inputs = now (inputs .entry); kinds = now (kinds .entry); a = now (a .entry); b = now (b .entry); c = now (c .entry); values = now (values .entry) }) (now (out .entry)) (now (out .exit)) r ⌝ }
 {
-    let verdict = tables::tables_refusal(n, parameters, results, inputs, kinds, a, b, c, values);
-    match verdict {
+    match tables_refusal(n, parameters, results, inputs, kinds, a, b, c, values) {
         Verdict::Passed => fit(n, parameters, results, inputs, kinds, a, b, c, values, out),
         Verdict::Refused(f) => Writing::Refused(f),
     }

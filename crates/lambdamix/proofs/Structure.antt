@@ -2,7 +2,7 @@
 -- no unbound variable, so that a script whose root has a type passes refusal 8. Assumes nothing.
 use Prim.Native.Nat.{ℕ, zero, suc, _+_, _≤_, _<_}
 use mathlib.Core.Path.{_≡_, refl}
-use mathlib.Core.Bool.{Bool, true, false}
+use mathlib.Core.Bool.{Bool, true, false, _||_}
 use mathlib.Core.Logic.{_⊎_, inl, inr, ⊎-elim, ⊎-map}
 use mathlib.Core.List.{List, [], _∷_}
 use mathlib.Core.Option.{none, some}
@@ -14,7 +14,7 @@ use Rattle.lambdamix.specs.Script.{Script, inputCount, root}
 use Rattle.lambdamix.specs.Term.{Term, Terms, tree}
 use Rattle.lambdamix.specs.Types.{Ty}
 use Rattle.lambdamix.specs.Typing.{Context, bind, typeAtBy, typeAt, inputType, contextFrom, inputContext, _∣_⊢_∶_, Const, Var, Lift, Abstr, Apply, Fix, If, Op, Abstr-dyn, Dyn, AllDynamic, nil-dyn, cons-dyn}
-use Rattle.lambdamix.specs.Structure.{firstBy, firstFailing, refusedAt, lowest, member, unlessBound, unbound, unboundAll, scopeRefusal}
+use Rattle.lambdamix.specs.Structure.{firstBy, firstFailing, oneIf, occurrences, refusedAt, lowest, member, unlessBound, unbound, unboundAll, scopeRefusal}
 use Rattle.lambdamix.proofs.Tests.{or-left, or-right}
 
 pub none-fails : (p : ℕ → Bool) (i n : ℕ) → ((j : ℕ) → i ≤ j → j < i + n → p j ≡ true) → firstFailing p i n ≡ none
@@ -22,6 +22,18 @@ unfolding firstFailing firstBy
 none-fails p i zero h = refl
 none-fails p i (suc n) h =
     rw (h i (omega arith) (omega arith)) (none-fails p (suc i) n (λ j a b. h j (omega arith) (omega arith)))
+
+-- what occurs in a list is a member of it
+pub occurs-member : (x : ℕ) (ys : List ℕ) → 0 < occurrences x ys → member x ys ≡ true
+unfolding occurrences member oneIf
+occurs-member x [] h = let z : ⊥ = omega arith in absurd z
+occurs-member x (y ∷ ys) h = go (eqb y x) h (occurs-member x ys)
+  where
+    go :
+        (b : Bool) → 0 < oneIf b + occurrences x ys → (0 < occurrences x ys → member x ys ≡ true) →
+        (b || member x ys) ≡ true
+    go true h r = refl
+    go false h r = r (omega arith)
 
 -- a name's type is that of the innermost binding, or of what lies behind it
 bound-cases :

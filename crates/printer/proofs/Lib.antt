@@ -4,7 +4,6 @@ pub mod Signs
 pub mod WordLaws
 pub mod NodeLaws
 pub mod Trees
-pub mod Passed
 pub mod Printed
 pub mod OwnBytes
 pub mod ListingBound

@@ -9,21 +9,23 @@ use native.Mathlib.Nat.{add-mul, one-mul}
 use native.Mathlib.Omega.{arith}
 use lib.ListN.{length, getD, length-append}
 use lib.Dec.{ltb, eqb}
-use borrow.Author.Tests.{ltb-true, ltb-false, lt-ltb, le-ltb, eqb-true, eqb-false}
+use borrow.Author.Tests.{ltb-true, ltb-false, lt-ltb, le-ltb, eq-eqb, eqb-true, eqb-false}
 use Rattle.lambdamix.specs.Limits.{maxNodes}
 use Rattle.lambdamix.specs.Falling.{guarded, below}
 use Rattle.lambdamix.specs.Script.{Script, Node, nodeAt, nodeCount, inputCount, root, children, blankNode}
-use Rattle.lambdamix.specs.Structure.{oneIf, occurrences, uses}
+use Rattle.lambdamix.specs.Structure.{oneIf, occurrences, uses, member}
 use Rattle.lambdamix.specs.Term.{tree}
 use Rattle.lambdamix.specs.Text.{ascii, digits}
 use Rattle.lambdamix.specs.Listing.{termText, listing}
 use Rattle.lambdamix.proofs.Falling.{below-at}
+use Rattle.lambdamix.proofs.Tests.{or-left, or-right}
 use Rattle.file.specs.Encodable.{Encodable}
 use Rattle.script.specs.Refusals.{scriptRefusal}
+use Rattle.script.proofs.Sound.{Sound, sound}
+use Rattle.script.proofs.Agreement.{children-fall}
 use Rattle.printer.specs.Nodes.{nodesText}
 use Rattle.printer.proofs.NodeLaws.{node-step}
 use Rattle.printer.proofs.Trees.{tree-text}
-use Rattle.printer.proofs.Passed.{Under, under-none, under-more, Passed, passed}
 use Rattle.printer.proofs.OwnBytes.{total, own-bytes}
 
 -- ---- sums over numbers, over a list and over the children of all nodes
@@ -42,10 +44,15 @@ childTotal : (ℕ → ℕ) → List Node → ℕ
 childTotal g [] = 0
 childTotal g (nd ∷ nds) = total g (children nd) + childTotal g nds
 
-total-same : {j : ℕ} {is : List ℕ} (f g : ℕ → ℕ) → ((i : ℕ) → i < j → f i ≡ g i) → Under j is → total f is ≡ total g is
-unfolding total
-total-same f g h under-none = refl
-total-same f g h (under-more {i} l u) = omega (arith, h i l, total-same f g h u)
+total-same : (f g : ℕ → ℕ) (is : List ℕ) → ((i : ℕ) → member i is ≡ true → f i ≡ g i) → total f is ≡ total g is
+unfolding total member
+total-same f g [] h = refl
+total-same f g (i ∷ is) h =
+    omega (arith, h i (or-left (member i is) (eq-eqb i i refl)), total-same f g is (λ j m. h j (or-right (eqb i j) m)))
+
+-- the children of a sound script's node stand below it
+under : (s : Script) → Sound s → (i m : ℕ) → i < nodeCount s → member m (children (nodeAt s i)) ≡ true → m < i
+under s h i m l e = children-fall (length (s .types)) (length (s .inputs)) (nodeAt s) i m (h .nodes-fit i l) e
 
 module _ (f g : ℕ → ℕ) where
   childTotal-same :
@@ -96,7 +103,7 @@ none-below g (nd ∷ nds) = omega (arith, none-total g (children nd), none-below
 
 -- ---- numbers that grow by at most 13 from children to parent
 
-module _ (s : Script) (h : Passed s) (g : ℕ → ℕ) where
+module _ (s : Script) (h : Sound s) (g : ℕ → ℕ) where
   used-once : (m : ℕ) → m ≤ root s → childTotal (below m 0 g) (s .nodes) ≡ sumFrom g 0 m
   unfolding sumFrom
   used-once zero l = none-below g (s .nodes)
@@ -109,7 +116,7 @@ module _ (s : Script) (h : Passed s) (g : ℕ → ℕ) where
   unfolding root nodeCount nodeAt
   all-used =
       childTotal-same g (below (root s) 0 g) (s .nodes)
-      (λ i l. total-same g (below (root s) 0 g) (λ j k. sym (below-at (root s) 0 g j (omega arith))) (h .under i l))
+      (λ i l. total-same g (below (root s) 0 g) _ (λ j k. sym (below-at (root s) 0 g j (omega (arith, under s h i j l k)))))
       ∙ used-once (root s) (omega arith)
 
 sum-own :
@@ -123,18 +130,18 @@ sum-own g k (nd ∷ nds) h =
     omega (arith, h 0 (omega arith), sum-own g (suc k) nds (λ i l. let e : suc k + i ≡ k + suc i = omega arith in rw e (h (suc i) (omega arith))))
 
 root-most :
-    (s : Script) (g : ℕ → ℕ) → Passed s →
+    (s : Script) (g : ℕ → ℕ) → Sound s →
     ((i : ℕ) → i < nodeCount s → g i ≤ 13 + total g (children (nodeAt s i))) → g (root s) ≤ 13 * nodeCount s
 unfolding root nodeCount nodeAt
 root-most s g h own =
     let n : ℕ = nodeCount s - 1 in
-    let e : length (s .nodes) ≡ suc n = omega (arith, h .some-nodes) in
+    let e : length (s .nodes) ≡ suc n = omega (arith, h .within .some-node) in
     let z : g (0 + n) ≡ g n = ap g (omega arith) in
     omega (arith, rw e at (sum-own g 0 (s .nodes) (λ i l. let e : 0 + i ≡ i = omega arith in rw e (own i l))), sum-last g 0 n, all-used s h g)
 
 -- ---- the bytes of a listing
 
-module _ (s : Script) (fits : Encodable s) (h : Passed s) where
+module _ (s : Script) (fits : Encodable s) (h : Sound s) where
   abbrev text : ℕ → List ℕ
   text = nodesText (inputCount s) (nodeAt s)
 
@@ -143,18 +150,18 @@ module _ (s : Script) (fits : Encodable s) (h : Passed s) where
   node-bytes i l =
       let self : ℕ → List ℕ = below i (digits 0) text in
       rw (node-step (inputCount s) (nodeAt s) i)
-      (omega (arith, own-bytes (inputCount s) self (nodeAt s i) (fits .nodes i l .a) (fits .nodes i l .value), total-same (λ m. length (self m)) (λ m. length (text m)) (λ j k. ap length (below-at i (digits 0) text j k)) (h .under i l)))
+      (omega (arith, own-bytes (inputCount s) self (nodeAt s i) (fits .nodes i l .a) (fits .nodes i l .value), total-same (λ m. length (self m)) (λ m. length (text m)) _ (λ j k. ap length (below-at i (digits 0) text j (under s h i j l k)))))
 
 -- At most 13 bytes for each node, and the newline.
 pub listing-bytes : (s : Script) → Encodable s → scriptRefusal s ≡ none → length (listing s) ≤ 13 * nodeCount s + 1
 unfolding listing ascii root
 listing-bytes s fits e =
-    let h : Passed s = passed s e in
-    let last : root s < nodeCount s = omega (arith, h .some-nodes) in
+    let h : Sound s = sound s e in
+    let last : root s < nodeCount s = omega (arith, h .within .some-node) in
     rw (length-append (termText (inputCount s) (tree s (root s))) (10 ∷ []), tree-text (inputCount s) s (nodeAt s) (λ i l. refl) (root s) last)
     (omega (arith, root-most s (λ i. length (text s fits h i)) h (node-bytes s fits h)))
 
 -- "no listing passes 65,536 bytes"
 pub listing-bound : (s : Script) → Encodable s → scriptRefusal s ≡ none → length (listing s) ≤ 65536
 unfolding maxNodes
-listing-bound s fits e = omega (arith, listing-bytes s fits e, passed s e .few-nodes)
+listing-bound s fits e = omega (arith, listing-bytes s fits e, sound s e .within .nodes)

@@ -23,13 +23,13 @@ use Rattle.printer.specs.declared.Listing.{Listing}
 use Rattle.script.specs.File.{numbered}
 use Rattle.script.specs.Tables.{Tables, rowNode, rowInput, tablesScript, tablesRefusal, over}
 use Rattle.script.proofs.RefusalLaws.{neither}
-use Rattle.file.proofs.RecordLaws.{numbered-length, numbered-at}
+use Rattle.script.proofs.Numbered.{length-numbered, row-at}
+use Rattle.script.proofs.Sound.{sound}
 use Rattle.printer.specs.declared.Listing.the-variants.{Listed, Refused}
 use Rattle.printer.specs.Nodes.{columnNode, nodesText, wholeText}
 use Rattle.printer.specs.Answers.{roomRefusal, listed, listedOutput, tablesText, listRefusal, Puts, Lists, ListsTables}
 use Rattle.printer.specs.Places.{Placed, most}
 use Rattle.printer.proofs.Trees.{tree-text}
-use Rattle.printer.proofs.Passed.{passed}
 
 -- ---- the text
 
@@ -41,10 +41,10 @@ unfolding listing inputCount root nodeCount nodeAt tablesScript rowNode columnNo
 listing-is t i n x h =
     let s : Script = tablesScript t i n x in
     let nodes : ℕ → Node = columnNode (x .kinds) (x .a) (x .b) (x .c) (x .values) in
-    let l : length (numbered (rowNode x) 0 n) ≡ n = numbered-length (rowNode x) 0 n in
+    let l : length (numbered (rowNode x) 0 n) ≡ n = length-numbered (rowNode x) 0 n in
     ap (λ (l : List ℕ). l ++ (10 ∷ []))
-    (tree-text (inputCount s) s nodes (λ j k. numbered-at (rowNode x) blankNode n j (omega arith)) (root s) (omega arith)
-    ∙ ap₂ (λ m j. nodesText m nodes j) (numbered-length (rowInput x) 0 i) (omega arith))
+    (tree-text (inputCount s) s nodes (λ j k. row-at (rowNode x) n blankNode j (omega arith)) (root s) (omega arith)
+    ∙ ap₂ (λ m j. nodesText m nodes j) (length-numbered (rowInput x) 0 i) (omega arith))
 
 -- refusal 3: "1 to 4,096 nodes"
 listing-text :
@@ -53,7 +53,7 @@ listing-text :
 unfolding tablesRefusal tablesScript nodeCount
 listing-text t i n x e =
     listing-is t i n x
-    (omega (arith, passed (tablesScript t i n x) (neither _ _ e .1) .some-nodes, numbered-length (rowNode x) 0 n))
+    (omega (arith, sound (tablesScript t i n x) (neither _ _ e .1) .within .some-node, length-numbered (rowNode x) 0 n))
 
 -- ---- the answer
 

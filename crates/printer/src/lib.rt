@@ -1,7 +1,6 @@
 // The listing of a script: annotations and lifts dropped.
 pub mod list;
 pub mod parts;
-mod tables;
 mod walk;
 mod words;
 

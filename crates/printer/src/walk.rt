@@ -10,8 +10,7 @@ use script::Name;
 use script::NodeNumber;
 use script::column;
 use script::kinds;
-ghost use mathlib.Core.Path.{_≡_};
-ghost use Prim.Native.Nat.{_-_};
+use script::place::root;
 ghost use mathlib.Core.List.{_++_};
 ghost use Rattle.lambdamix.specs.Listing.{nameText};
 ghost use Rattle.printer.specs.Places.{Placed};
@@ -121,16 +120,6 @@ fn child(
         return node(kinds, a, b, c, values, inputs, m, out, at);
     }
     part_at(out, at, Part::Number(0))
-}
-
-// The last of a count of nodes.
-fn root(nodes: u16) -> NodeNumber
-    ensures { λ r. ⌜ r .0 ≡ nodes - 1 ⌝ }
-{
-    if nodes == 0 {
-        return NodeNumber(0);
-    }
-    NodeNumber(nodes - 1)
 }
 
 // The text of the root, and a newline.

@@ -19,12 +19,13 @@ use Rattle.lambdamix.proofs.WrittenTree.{top-last, written-size}
 use Rattle.script.specs.Bytes.{bytes16}
 use Rattle.script.specs.File.{headBytes, inputBytes, nodeBytes, records, numbered, fileBytes, fileLength, nodeOffset}
 use Rattle.file.specs.Written.{Put, headRow}
-use Rattle.file.proofs.RecordLaws.{numbered-length, records-length}
+use Rattle.script.proofs.Numbered.{length-numbered}
+use Rattle.file.proofs.RecordLaws.{records-length}
 use Rattle.file.proofs.Layouts.{inputLayout}
 use Rattle.file.proofs.FileLaws.{file-length}
-use Rattle.file.proofs.WritingLaws.{put-both, put-same, put-over}
+use Rattle.file.proofs.WritingLaws.{put-length, put-both, put-same, put-over}
 use Rattle.residual.specs.declared.Finish.the-variants as Finish
-use Rattle.residual.specs.Cells.{spend, spendOne, roomOf}
+use Rattle.residual.specs.Cells.{spend, roomOf}
 use Rattle.residual.specs.AfterRun.{writtenBy, afterRun}
 use Rattle.residual.specs.Answers.{replyOf, outcome}
 use Rattle.residual.proofs.Spending.{Spent, left, spent, spend-fits, spend-size}
@@ -35,7 +36,7 @@ nodes-count : (c : Code) → length (nodesFrom 0 c) ≡ size c
 unfolding nodeCount written
 nodes-count c = written-size (record { types = []; inputs = []; nodes = [] }) c
 
-pub top-count : {n r : ℕ} (c : Code) → n ≡ size c → r ≡ top 0 c → r + 1 ≡ n
+top-count : {n r : ℕ} (c : Code) → n ≡ size c → r ≡ top 0 c → r + 1 ≡ n
 top-count c e f = omega (arith, top-last c 0, nodes-count c)
 
 -- the last node's number is below the count of nodes
@@ -74,9 +75,9 @@ module _ (room : ℕ) (c : Code) (e : roomOf room ≡ spend c maxNodes maxHeight
 
 module _ (s : Script) (g : ℕ → ℕ) (count : ℕ) (i : s .inputs ≡ numbered g 0 count) (c : Code) {n : ℕ} (e : n ≡ size c) where
   inputs-count : length (s .inputs) ≡ count
-  inputs-count = ap length i ∙ numbered-length g 0 count
+  inputs-count = ap length i ∙ length-numbered g 0 count
 
-  pub file-size : length (fileBytes (written s c)) ≡ 8 + 4 * count + 13 * n
+  pub file-size : length (fileBytes (written s c)) ≡ fileLength 0 count n
   unfolding written fileLength nodeOffset
   file-size = file-length (written s c) ∙ omega (arith, inputs-count, nodes-count c)
 
@@ -87,18 +88,24 @@ module _ (s : Script) (g : ℕ → ℕ) (count : ℕ) (i : s .inputs ≡ numbere
 
   -- head, inputs and nodes, each put behind the other, are the file
   pub put-written :
-      {l j k m : List ℕ} → Put l 0 (headRow 0 count n) j → Put j (8 + 6 * 0) (records inputBytes (numbered g 0 count)) k →
-      Put k (8 + 4 * count + 13 * 0) (records nodeBytes (nodesFrom 0 c)) m → Put l 0 (fileBytes (written s c)) m
-  unfolding fileBytes written headBytes records ascii bytes16
-  put-written p q r =
+      {l j k m : List ℕ} {base : ℕ} → Put l 0 (headRow 0 count n) j → Put j (8 + 6 * 0) (records inputBytes (numbered g 0 count)) k →
+      base ≡ nodeOffset 0 count 0 → Put k (base + 13 * 0) (records nodeBytes (nodesFrom 0 c)) m → Put l 0 (fileBytes (written s c)) m
+  unfolding fileBytes written headBytes records ascii bytes16 nodeOffset
+  put-written p q b r =
       put-both (put-same the-head p) refl
       (put-both (put-same (ap (records inputBytes) (sym i)) q) (omega (arith, records-length inputLayout (s .inputs), inputs-count)) r)
+
+  -- the nodes have room where the file has
+  pub nodes-room : {l j k : List ℕ} {base r : ℕ} → fileLength 0 count n ≤ length l → Put l 0 (headRow 0 count n) j →
+      Put j (8 + 6 * 0) (records inputBytes (numbered g 0 count)) k → base ≡ nodeOffset 0 count 0 → r ≡ top 0 c → base + 13 * r + 13 ≤ length k
+  unfolding fileLength nodeOffset
+  nodes-room h p q b t = omega (arith, h, top-count c e t, put-length p, put-length q)
 
   -- ---- the replies
 
   module _ (k : ℕ) (f : fits c ≡ true) {before : List ℕ} where
     pub finish-written :
-        {after : List ℕ} → 8 + 4 * count + 13 * n ≤ length before → Put before 0 (fileBytes (written s c)) after →
+        {after : List ℕ} → fileLength 0 count n ≤ length before → Put before 0 (fileBytes (written s c)) after →
         outcome (Finish.Written n) k after ≡ afterRun s (finished c k) before
     unfolding replyOf afterRun writtenBy
     finish-written h p =
@@ -106,7 +113,7 @@ module _ (s : Script) (g : ℕ → ℕ) (count : ℕ) (i : s .inputs ≡ numbere
         rw (f, le-leb (length (fileBytes (written s c))) (length before) l, e, put-over p l)
 
     pub finish-short :
-        length before < 8 + 4 * count + 13 * n →
+        length before < fileLength 0 count n →
         outcome (Finish.Refused (record { number = 21; place = 0 })) k before ≡ afterRun s (finished c k) before
     unfolding replyOf afterRun writtenBy
     finish-short h =

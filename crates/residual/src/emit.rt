@@ -8,6 +8,8 @@ use crate::size;
 use file::writer;
 use script::Counts;
 use script::Refusal;
+use script::place::file_size;
+use script::place::node_offset;
 use script::word;
 ghost use Prim.Native.Nat.{ℕ, _+_, _*_, _<_, _≤_};
 ghost use mathlib.Core.Path.{_≡_};
@@ -15,11 +17,11 @@ ghost use mathlib.Core.Bool.{true};
 ghost use lib.ListN.{length, getD};
 ghost use Rattle.lambdamix.specs.Limits.{maxNodes};
 ghost use Rattle.lambdamix.specs.Script.{Script};
-ghost use Rattle.lambdamix.specs.Code.{lit, node, size, fits, top, after, written};
+ghost use Rattle.lambdamix.specs.Code.{lit, node, size, fits, top, after};
 ghost use Rattle.lambdamix.specs.Specializing.{finished};
-ghost use Rattle.script.specs.File.{nodeBytes, numbered, fileBytes};
+ghost use Rattle.script.specs.File.{nodeBytes, numbered};
 ghost use Rattle.script.specs.Words.{wordKind};
-ghost use Rattle.file.specs.Written.{Put, PutWhole, inputRow};
+ghost use Rattle.file.specs.Written.{PutWhole, inputRow};
 ghost use Rattle.residual.specs.Cells.{twoPieces, threePieces, codeAt, codeBelow};
 ghost use Rattle.residual.specs.AfterRun.{afterRun};
 ghost use Rattle.residual.specs.Answers.{farthest, Emits, EmitsOver, twoNode, threeNode, outcome};
@@ -124,22 +126,7 @@ fn emit_root(codes: &[u64], p: u16, out: &mut [u8], base: u32) -> u16
     emit(codes, p, codes[i], out, base, 0)
 }
 
-// The file of the code at p: head, inputs, nodes.
-fn write_code(codes: &[u64], p: u16, inputs: &[u16], count: u16, nodes: u16, out: &mut [u8])
-    requires { ⌜ ((nodes ≡ size (codeAt (now codes) p)) × (nodes ≤ maxNodes)) × (8 + 4 * count + 13 * nodes ≤ length (now out)) ⌝ }
-    ensures { λ r. ⌜ ((s : Script) → s .inputs ≡ numbered (inputRow (now (inputs .entry))) 0 count → Put (now (out .entry)) 0 (fileBytes (written s (codeAt (now (codes .entry)) p))) (now (out .exit))) ⌝ }
-{
-    let n = Counts {
-        types: 0,
-        inputs: count,
-        nodes: nodes,
-    };
-    writer::head_at(out, 0, n);
-    writer::inputs_at(out, n, inputs);
-    emit_root(codes, p, out, 8 + 4 * (count as u32));
-}
-
-// Code that fits a file: 21 [0] where the output is shorter than the file.
+// Code that fits a file: 21 [0] where the output is shorter than the file, else head, inputs and nodes.
 fn finish_file(
     codes: &[u64],
     p: u16,
@@ -156,13 +143,15 @@ fn finish_file(
         inputs: count,
         nodes: nodes,
     };
-    if out.len() < writer::file_size(n) {
+    if out.len() < file_size(n) {
         return Finish::Refused(Refusal {
             number: 21,
             place: 0,
         });
     }
-    write_code(codes, p, inputs, count, nodes, out);
+    writer::head_at(out, 0, n);
+    writer::inputs_at(out, n, inputs);
+    emit_root(codes, p, out, node_offset(0, count, 0));
     Finish::Written(nodes)
 }
 

@@ -17,8 +17,8 @@ use Rattle.file.specs.Heads.{headCounts}
 use Rattle.file.specs.Encodable.{AllBytes}
 use Rattle.script.specs.Tables.{Tables, tablesRefusal, longEnough}
 use Rattle.script.proofs.RefusalLaws.{neither, not-refused, pass-over}
-use Rattle.file.proofs.RecordLaws.{numbered-length}
-use Rattle.file.proofs.ContentLaws.{in-limits}
+use Rattle.script.proofs.Numbered.{length-numbered}
+use Rattle.script.proofs.Sound.{in-limits}
 use Rattle.file.proofs.FileLaws.{file-refusal, read-fits, written-read}
 use Rattle.respond.specs.Stages.{Held}
 
@@ -26,7 +26,7 @@ pub script-counts :
     (bs : List ℕ) →
     (length (scriptIn bs .types) ≡ headTypes bs) × (length (scriptIn bs .inputs) ≡ headInputs bs) × (length (scriptIn bs .nodes) ≡ headNodes bs)
 unfolding scriptIn
-script-counts bs = (numbered-length _ 0 (headTypes bs), numbered-length _ 0 (headInputs bs), numbered-length _ 0 (headNodes bs))
+script-counts bs = (length-numbered _ 0 (headTypes bs), length-numbered _ 0 (headInputs bs), length-numbered _ 0 (headNodes bs))
 
 pub file-counts : (bs : List ℕ) → fileRefusal bs ≡ none → countsRight (headTypes bs) (headInputs bs) (headNodes bs) ≡ true
 unfolding fileRefusal

@@ -21,7 +21,7 @@ use Rattle.lambdamix.proofs.Range.{Fits}
 use Rattle.script.specs.File.{numbered}
 use Rattle.file.specs.Encodable.{AllBytes}
 use Rattle.file.proofs.ByteLaws.{value-small}
-use Rattle.file.proofs.RecordLaws.{numbered-length, numbered-at}
+use Rattle.script.proofs.Numbered.{length-numbered, row-at}
 use Rattle.respond.specs.Response.{programFuel, programSettings, wholeSettings, settingAt, settings, settingsReply}
 use Rattle.respond.specs.Given.{givenBy, givenCount, givenSettings}
 
@@ -47,11 +47,11 @@ module _ (s : Script) (few : length (s .inputs) ≤ maxInputs) where
   -- the count that stands for a wrong number of settings
   wrong-refused : (bs : List ℕ) → callRefusal s (numbered (settingAt bs) 0 programSettings) programFuel ≡ twelve
   wrong-refused bs =
-      too-many (numbered (settingAt bs) 0 programSettings) (omega (arith, numbered-length (settingAt bs) 0 programSettings))
+      too-many (numbered (settingAt bs) 0 programSettings) (omega (arith, length-numbered (settingAt bs) 0 programSettings))
 
   many-refused : (bs : List ℕ) → programSettings ≤ length bs / 6 → callRefusal s (settings bs) programFuel ≡ twelve
   unfolding settings
-  many-refused bs h = too-many (settings bs) (omega (arith, numbered-length (settingAt bs) 0 (length bs / 6)))
+  many-refused bs h = too-many (settings bs) (omega (arith, length-numbered (settingAt bs) 0 (length bs / 6)))
 
   -- ---- the reply
 
@@ -101,11 +101,11 @@ settings-fit bs all i = ⊎-elim inside outside (holds-or-fails (ltb i (givenCou
   where
     inside : ltb i (givenCount bs) ≡ true → Fits (getD (numbered (settingAt bs) 0 (givenCount bs)) i (pos 0))
     inside e =
-        rw (numbered-at (settingAt bs) (pos 0) (givenCount bs) i (ltb-true i (givenCount bs) e))
+        rw (row-at (settingAt bs) (givenCount bs) (pos 0) i (ltb-true i (givenCount bs) e))
         (record { within = value-small all (6 * i + 2) })
 
     outside : ltb i (givenCount bs) ≡ false → Fits (getD (numbered (settingAt bs) 0 (givenCount bs)) i (pos 0))
     outside e =
         let past : length (numbered (settingAt bs) 0 (givenCount bs)) ≤ i =
-        omega (arith, ltb-false i (givenCount bs) e, numbered-length (settingAt bs) 0 (givenCount bs)) in
+        omega (arith, ltb-false i (givenCount bs) e, length-numbered (settingAt bs) 0 (givenCount bs)) in
         rw (List·getD-eq-default (numbered (settingAt bs) 0 (givenCount bs)) (pos 0) past) (record { within = omega arith })

@@ -1,9 +1,9 @@
 -- Tables that the reader filled hold the file, and its listing is printed behind the counts. Assumes nothing.
 use Prim.Native.Nat.{ℕ, _-_, _≤_, min}
-use mathlib.Core.Path.{_≡_, refl, sym, ap, _∙_}
+use mathlib.Core.Path.{_≡_, refl, sym, ap, _∙_, subst}
 use mathlib.Core.Bool.{true}
 use mathlib.Core.List.{List, _++_, map}
-use mathlib.Core.Option.{Option, none, some}
+use mathlib.Core.Option.{none, some}
 use native.Mathlib.Omega.{arith}
 use lib.ListN.{length, take, drop, length-append, length-drop, length-map}
 use lib.Dec.{leb}
@@ -24,14 +24,14 @@ use Rattle.file.specs.Heads.{headCounts}
 use Rattle.file.specs.Encodable.{AllBytes}
 use Rattle.script.specs.Tables.{Tables, over, filled, longEnough, readRefusal, readTables}
 use Rattle.script.specs.Replies.{reading, Reads}
-use Rattle.file.proofs.ContentLaws.{in-limits}
+use Rattle.script.proofs.Sound.{in-limits}
 use Rattle.file.proofs.FillLaws.{file-held}
 use Rattle.file.proofs.FileLaws.{read-fits}
 use Rattle.printer.specs.Answers.{tablesText}
 use Rattle.printer.proofs.Writing.{join}
 use Rattle.printer.proofs.ListingBound.{listing-bytes}
 use Rattle.respond.specs.Response.{maxBytes}
-use Rattle.respond.specs.Stages.{linesBytes, listingBytes, CountsPlaced, ListsAt, ListsFile, PrintsMade, Held}
+use Rattle.respond.specs.Stages.{linesBytes, listingBytes, CountsPlaced, ListsAt, ListsReading, ListsFile, PrintsMade, Held}
 use Rattle.respond.proofs.Files.{script-counts, file-counts, script-passes, long-for, held-passes}
 use Rattle.respond.proofs.Splitting.{front-part}
 
@@ -72,49 +72,37 @@ filled-long s x t i n e =
 
 -- ---- the reader's answer, where the tables are long enough for every file
 
-refused-not-read : {f : Told.Refusal} {n : Counts} → Reading.Refused f ≡ Reading.Read n → ⊥
+pub refused-not-read : {f : Told.Refusal} {n : Counts} → Reading.Refused f ≡ Reading.Read n → ⊥
 refused-not-read e = let z : _≡_ {A = ℕ} 0 1 = cc in omega arith
+
+pub one-count : {told : Reading} {n m : Counts} → told ≡ Reading.Read n → told ≡ Reading.Read m → n ≡ m
+one-count {n = n} {m = m} o q = let u : Reading.Read n ≡ Reading.Read m = sym o ∙ q in cc
 
 module _ {bs : List ℕ} {x y : Tables} {r : Reading} (room : longEnough maxTypes maxInputs maxNodes x ≡ true) (reads : Reads bs x y r) where
   not-short : fileRefusal bs ≡ none → readRefusal bs x ≡ none
   unfolding readRefusal refusedUnless orElse
   not-short e = rw (e, long-for (headTypes bs) (headInputs bs) (headNodes bs) x (file-counts bs e) room)
 
-  read-passes : {n : Counts} → r ≡ Reading.Read n → fileRefusal bs ≡ none
-  unfolding readRefusal reading orElse
-  read-passes {n} q = go (fileRefusal bs) refl
-    where
-      go : (f : Option Refusal) → fileRefusal bs ≡ f → f ≡ none
-      go none e = refl
-      go (some g) e = absurd (refused-not-read (sym (rw e at (reads .reply)) ∙ q))
+  pub passed-read : fileRefusal bs ≡ none → r ≡ Reading.Read (headCounts bs)
+  unfolding reading headCounts
+  passed-read e = rw (not-short e) at (reads .reply)
 
-  pub read-refused :
-      {f : Told.Refusal} → r ≡ Reading.Refused f → fileRefusal bs ≡ some (record { number = f .number; place = f .place })
+  pub refused-read :
+      {f : Refusal} → fileRefusal bs ≡ some f → r ≡ Reading.Refused (record { number = f .number; place = f .place })
   unfolding readRefusal reading orElse
-  read-refused {f} q = go (fileRefusal bs) refl
-    where
-      go : (g : Option Refusal) → fileRefusal bs ≡ g → g ≡ some (record { number = f .number; place = f .place })
-      go none e = absurd (refused-not-read (sym q ∙ rw (not-short e) at (reads .reply)))
-      go (some g) e =
-          let u : Reading.Refused f ≡ Reading.Refused (record { number = g .number; place = g .place }) = sym q ∙ rw e at (reads .reply) in
-          let v : f ≡ record { number = g .number; place = g .place } = cc in
-          ap (λ (w : Told.Refusal). some (record { number = w .number; place = w .place })) (sym v)
+  refused-read e = rw e at (reads .reply)
 
-  pub held : AllBytes bs → {n : Counts} → r ≡ Reading.Read n → Held bs n y
-  unfolding reading readTables headCounts
-  held all {n} q =
-      let e : fileRefusal bs ≡ none = read-passes q in
-      let none-told : readRefusal bs x ≡ none = not-short e in
-      let u : Reading.Read n ≡ Reading.Read (headCounts bs) = sym q ∙ rw none-told at (reads .reply) in
-      let counts : n ≡ headCounts bs = cc in
-      let tables : y ≡ filled (scriptIn bs) x = rw none-told at (reads .tables) in
+  pub held : AllBytes bs → fileRefusal bs ≡ none → Held bs (headCounts bs) y
+  unfolding readTables headCounts
+  held all e =
+      let tables : y ≡ filled (scriptIn bs) x = rw (not-short e) at (reads .tables) in
       let c = script-counts bs in
       let l = in-limits (headTypes bs) (headInputs bs) (headNodes bs) (file-counts bs e) in
       record {
         bytes = all;
         read = e;
-        counts = counts;
-        script = rw (counts, tables) (file-held bs x);
+        counts = refl;
+        script = rw tables (file-held bs x);
         room =
             rw tables
             (filled-long (scriptIn bs) x (omega (arith, c .0, l .types)) (omega (arith, c .1, l .inputs)) (omega (arith, c .2, l .nodes))
@@ -130,33 +118,30 @@ file-bytes bs all e =
     let l = in-limits (headTypes bs) (headInputs bs) (headNodes bs) (file-counts bs e) in
     omega (arith, listing-bytes (scriptIn bs) (read-fits bs all) (script-passes bs all e), c .2, l .nodes)
 
-module _ {bs : List ℕ} {x y : Tables} {r : Reading} {at : ℕ} {before : List ℕ}
-    (room : longEnough maxTypes maxInputs maxNodes x ≡ true) (reads : Reads bs x y r) where
-  pub file-listed :
-      {n : Counts} {after : List ℕ} {e : ℕ} → AllBytes bs → r ≡ Reading.Read n → ListsAt n y at before after e →
-      ListsFile bs at before after e
-  unfolding tablesText
-  file-listed {n} all q l =
-      record {
-        lists = λ passed enough.
-            let h : Held bs n y = held room reads all q in
-            let text : tablesText n y ≡ listing (scriptIn bs) = ap listing (h .script) in
-            let short = file-bytes bs all passed in
-            record {
-              short = short;
-              placed = rw text at (l .lists (held-passes h) (rw text (omega arith)));
-            };
-      }
+module _ {x : Tables} {at : ℕ} {before after : List ℕ} {told : Reading} {e : ℕ} where
+  pub listed-read : {n : Counts} → told ≡ Reading.Read n → ListsAt n x at before after e → ListsReading told x at before after e
+  listed-read o l = record { read = λ m q. subst (λ (k : Counts). ListsAt k x at before after e) (one-count o q) l }
 
-  pub file-never : {f : Told.Refusal} {after : List ℕ} {e : ℕ} → r ≡ Reading.Refused f → ListsFile bs at before after e
-  file-never q =
-      record {
-        lists = λ passed enough.
-            let u : fileRefusal bs ≡ some _ = read-refused room reads q in
-            let w : _≡_ {A = ℕ} 0 1 = cc in
-            let v : ⊥ = omega arith in
-            absurd v;
-      }
+  pub listed-never : {f : Told.Refusal} → told ≡ Reading.Refused f → ListsReading told x at before after e
+  listed-never o = record { read = λ m q. absurd (refused-not-read (sym o ∙ q)) }
+
+-- a file that passes is read, and its tables hold it
+pub file-listed :
+    {bs : List ℕ} {x y : Tables} {told : Reading} {at : ℕ} {before after : List ℕ} {e : ℕ} →
+    longEnough maxTypes maxInputs maxNodes x ≡ true → Reads bs x y told → AllBytes bs → ListsReading told y at before after e →
+    ListsFile bs at before after e
+unfolding tablesText
+file-listed {bs} {y = y} room reads all l =
+    record {
+      lists = λ passed enough.
+          let h : Held bs (headCounts bs) y = held room reads all passed in
+          let text : tablesText (headCounts bs) y ≡ listing (scriptIn bs) = ap listing (h .script) in
+          let short = file-bytes bs all passed in
+          record {
+            short = short;
+            placed = rw text at (l .read (headCounts bs) (passed-read room reads passed) .lists (held-passes h) (rw text (omega arith)));
+          };
+    }
 
 -- ---- the counts and the listing
 

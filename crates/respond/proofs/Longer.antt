@@ -18,7 +18,7 @@ use Rattle.lambdamix.proofs.Tests.{and-both}
 use Rattle.script.specs.Bytes.{byteAt, word16}
 use Rattle.script.specs.File.{fileLength, nodeOffset, headTypes, headInputs, headNodes, scriptIn}
 use Rattle.script.specs.Refusals.{marked, headMarked, countsRight, fileRefusal}
-use Rattle.file.proofs.ContentLaws.{in-limits}
+use Rattle.script.proofs.Sound.{in-limits}
 use Rattle.respond.specs.Response.{programSettings, maxBytes, headRight, scriptLengthBy, scriptLength, scriptPart, settingsPart, inputReply, replyTo, unmadeText, replyText, response}
 use Rattle.respond.proofs.Files.{few-inputs}
 use Rattle.respond.proofs.GivenSettings.{many-settings}
@@ -26,17 +26,20 @@ use Rattle.respond.proofs.GivenSettings.{many-settings}
 -- ---- the response by the file's refusal
 
 module _ (bs : List ℕ) where
+  abbrev told : Option Refusal → List ℕ
+  told r = replyText (scriptIn (scriptPart bs)) (inputReply r (scriptIn (scriptPart bs)) (settingsPart bs))
+
   refused-response :
       (f : Refusal) → fileRefusal (scriptPart bs) ≡ some f → response bs ≡ unmadeText (ltb (f .number) 20) (f .number) (f .place)
   unfolding response replyTo inputReply replyText
-  refused-response f e = rw e
+  refused-response f e = ap told e
 
   twelve-response :
       fileRefusal (scriptPart bs) ≡ none → programSettings ≤ length (settingsPart bs) / 6 →
       response bs ≡ replyText (scriptIn (scriptPart bs)) (unlessRefused (annotationRefusal (scriptIn (scriptPart bs))) (unmade 12 0 0))
   unfolding response replyTo inputReply
   twelve-response e h =
-      rw e (ap (replyText (scriptIn (scriptPart bs))) (many-settings (scriptIn (scriptPart bs)) (few-inputs (scriptPart bs) e) (settingsPart bs) h))
+      ap told e ∙ ap (replyText (scriptIn (scriptPart bs))) (many-settings (scriptIn (scriptPart bs)) (few-inputs (scriptPart bs) e) (settingsPart bs) h)
 
 -- ---- the head
 
@@ -44,17 +47,21 @@ headFault : Bool → Refusal
 headFault true = record { number = 3; place = 0 }
 headFault false = record { number = 2; place = 0 }
 
+-- of two faults the first is told
+first-fault :
+    (l m c : Bool) (n : ℕ) (r : Option Refusal) → l ≡ true → (l && (m && c)) ≡ false →
+    orElse (refusedUnless l 1 n) (orElse (refusedUnless m 2 0) (orElse (refusedUnless c 3 0) r)) ≡ some (headFault m)
+unfolding refusedUnless orElse headFault
+first-fault false m c n r h f = absurd (true≢false (sym h))
+first-fault true true true n r h f = absurd (true≢false f)
+first-fault true true false n r h f = refl
+first-fault true false c n r h f = refl
+
 wrong-head :
     (bs : List ℕ) → 8 ≤ length bs → headRight bs ≡ false → fileRefusal bs ≡ some (headFault (headMarked bs 0))
-unfolding headRight fileRefusal refusedUnless orElse headFault
-wrong-head bs h e = go (headMarked bs 0) (countsRight (headTypes bs) (headInputs bs) (headNodes bs)) _ (rw (le-leb 8 (length bs) h) at e)
-  where
-    go :
-        (m c : Bool) (r : Option Refusal) → (m && c) ≡ false →
-        orElse (refusedUnless (leb 8 (length bs)) 1 (length bs)) (orElse (refusedUnless m 2 0) (orElse (refusedUnless c 3 0) r)) ≡ some (headFault m)
-    go true true r f = absurd (true≢false f)
-    go true false r f = rw (le-leb 8 (length bs) h)
-    go false c r f = rw (le-leb 8 (length bs) h)
+unfolding headRight fileRefusal
+wrong-head bs h e =
+    first-fault (leb 8 (length bs)) (headMarked bs 0) (countsRight (headTypes bs) (headInputs bs) (headNodes bs)) (length bs) _ (le-leb 8 (length bs) h) e
 
 -- without a right head the whole input is the script
 whole-script : (bs : List ℕ) → headRight bs ≡ false → scriptPart bs ≡ bs
@@ -78,6 +85,14 @@ module _ (bs : List ℕ) (long : maxBytes ≤ length bs) where
   front-length : length front ≡ maxBytes
   front-length = length-take-le maxBytes bs long
 
+  long-head : 8 ≤ length bs
+  unfolding maxBytes
+  long-head = omega (arith, long)
+
+  front-head : 8 ≤ length front
+  unfolding maxBytes
+  front-head = omega (arith, front-length)
+
   word-same : (o : ℕ) → o < 8 → word16 front o ≡ word16 bs o
   unfolding maxBytes word16 byteAt
   word-same o h = rw (getD-take maxBytes bs o 0 (omega arith), getD-take maxBytes bs (o + 1) 0 (omega arith))
@@ -99,9 +114,9 @@ module _ (bs : List ℕ) (long : maxBytes ≤ length bs) where
   mark-same = rw (getD-take maxBytes bs 0 0 (omega arith), getD-take maxBytes bs 1 0 (omega arith))
 
   right-same : headRight front ≡ headRight bs
-  unfolding maxBytes headRight
+  unfolding headRight
   right-same =
-      rw (le-leb 8 (length front) (omega (arith, front-length)), le-leb 8 (length bs) (omega arith), mark-same, types-same, inputs-same, nodes-same)
+      rw (le-leb 8 (length front) front-head, le-leb 8 (length bs) long-head, mark-same, types-same, inputs-same, nodes-same)
 
   -- ---- a right head
 
@@ -148,12 +163,11 @@ module _ (bs : List ℕ) (long : maxBytes ≤ length bs) where
   -- ---- a wrong head
 
   wrong-response : headRight bs ≡ false → response front ≡ response bs
-  unfolding maxBytes
   wrong-response wrong =
       let f : Refusal = headFault (headMarked bs 0) in
       refused-response front f
-      (wrong-told front (omega (arith, front-length)) (right-same ∙ wrong) ∙ ap (λ (b : Bool). some (headFault b)) mark-same)
-      ∙ sym (refused-response bs f (wrong-told bs (omega arith) wrong))
+      (wrong-told front front-head (right-same ∙ wrong) ∙ ap (λ (b : Bool). some (headFault b)) mark-same)
+      ∙ sym (refused-response bs f (wrong-told bs long-head wrong))
 
   -- The first bytes decide.
   pub longer-input : response front ≡ response bs

@@ -1,9 +1,9 @@
 -- An input is answered by its script and what follows it, and a call by its input where the output is long enough. Assumes nothing.
 use Prim.Native.Nat.{ℕ, _+_, _-_, _≤_, _<_, min}
-use mathlib.Core.Path.{_≡_, ap}
+use mathlib.Core.Path.{_≡_, refl, sym, ap, _∙_, subst}
 use mathlib.Core.Bool.{true, false}
 use mathlib.Core.List.{List}
-use mathlib.Core.Option.{some}
+use mathlib.Core.Option.{Option, none, some}
 use mathlib.Core.Logic.{⊎-elim}
 use native.Mathlib.Omega.{arith}
 use lib.ListN.{length, take, drop, length-take, List·getD-eq-default}
@@ -17,7 +17,9 @@ use Rattle.script.specs.declared.Refusal as Told
 use Rattle.script.specs.declared.Reading.{Reading}
 use Rattle.script.specs.declared.Reading.the-variants as Reading
 use Rattle.script.specs.Bytes.{byteAt}
+use Rattle.lambdamix.specs.Checker.{Refusal}
 use Rattle.script.specs.Refusals.{fileRefusal}
+use Rattle.file.specs.Heads.{headCounts}
 use Rattle.file.specs.Encodable.{AllBytes}
 use Rattle.script.specs.Tables.{Tables, longEnough, over}
 use Rattle.script.specs.Replies.{Reads}
@@ -25,9 +27,9 @@ use Rattle.printer.specs.Places.{most}
 use Rattle.respond.specs.declared.Response.the-variants.{Printed, TooShort}
 use Rattle.respond.specs.Response.{maxBytes, scriptLength, scriptPart, settingsPart, inputReply, replyTo, unmadeText, replyText, response}
 use Rattle.respond.specs.Answers.{responded, respondedOutput, Responds}
-use Rattle.respond.specs.Stages.{Prints, Held, AnswersScript, Answers}
+use Rattle.respond.specs.Stages.{Prints, AnswersScript, AnswersReading, Answers}
 use Rattle.respond.proofs.Splitting.{front-part, back-part}
-use Rattle.respond.proofs.Holding.{read-refused, held}
+use Rattle.respond.proofs.Holding.{one-count, refused-not-read, passed-read, refused-read, held}
 
 -- ---- parts of bytes are bytes
 
@@ -49,34 +51,47 @@ script-bytes : (bs : List ℕ) → AllBytes bs → AllBytes (scriptPart bs)
 unfolding scriptPart
 script-bytes bs all = taken-bytes (scriptLength bs) all
 
+-- ---- the reader's answer
+
+module _ {x : Tables} {rest out printed : List ℕ} {told : Reading} {r : ℕ} where
+  pub answered-read : {n : Counts} → told ≡ Reading.Read n → AnswersScript n x rest out printed r → AnswersReading told x rest out printed r
+  answered-read o a =
+      record {
+        refused = λ f q. absurd (refused-not-read (sym q ∙ o));
+        read = λ m q. subst (λ (k : Counts). AnswersScript k x rest out printed r) (one-count o q) a;
+      }
+
+  pub answered-refused :
+      {f : Told.Refusal} → told ≡ Reading.Refused f →
+      Prints (unmadeText (ltb (f .number) 20) (f .number) (f .place)) out printed r → AnswersReading told x rest out printed r
+  answered-refused {f} o p =
+      record {
+        refused = λ g q. subst (λ (h : Told.Refusal). Prints (unmadeText (ltb (h .number) 20) (h .number) (h .place)) out printed r) (same q) p;
+        read = λ m q. absurd (refused-not-read (sym o ∙ q));
+      }
+    where
+      same : {g : Told.Refusal} → told ≡ Reading.Refused g → f ≡ g
+      same {g} q = let u : Reading.Refused f ≡ Reading.Refused g = sym o ∙ q in cc
+
 -- ---- the input
 
-module _ (input : List ℕ) {x y : Tables} {end : ℕ} {reply : Reading} (room : longEnough maxTypes maxInputs maxNodes x ≡ true)
-    (e : end ≡ min (scriptLength input) (length input)) (reads : Reads (take (end - 0) (drop 0 input)) x y reply) where
-  script-read : Reads (scriptPart input) x y reply
+module _ (input : List ℕ) {x y : Tables} {end : ℕ} {told : Reading} (room : longEnough maxTypes maxInputs maxNodes x ≡ true)
+    (e : end ≡ min (scriptLength input) (length input)) (reads : Reads (take (end - 0) (drop 0 input)) x y told) where
+  script-read : Reads (scriptPart input) x y told
   unfolding scriptPart
   script-read = rw (front-part (scriptLength input) input e) at reads
 
-  pub input-refused :
-      {f : Told.Refusal} {out printed : List ℕ} {r : ℕ} → reply ≡ Reading.Refused f →
-      Prints (unmadeText (ltb (f .number) 20) (f .number) (f .place)) out printed r → Answers input out printed r
-  unfolding response replyTo inputReply replyText
-  input-refused {f} q p = record {
-    answers = λ long.
-        let g : fileRefusal (scriptPart input) ≡ some (record { number = f .number; place = f .place }) = read-refused room script-read q in
-        rw g p;
-  }
-
-  pub input-read :
-      {n : Counts} {out printed : List ℕ} {last r : ℕ} → last ≡ length input → AllBytes input → reply ≡ Reading.Read n →
-      AnswersScript n y (take (last - end) (drop end input)) out printed r → Answers input out printed r
-  unfolding response replyTo inputReply settingsPart
-  input-read {n} l all q s = record {
-    answers = λ long.
-        let h : Held (scriptPart input) n y = held room script-read (script-bytes input all) q in
-        let a = (rw (back-part (scriptLength input) input e l) at s) .answers (scriptPart input) h (left-bytes (scriptLength input) all) long in
-        rw (h .read) a;
-  }
+  pub input-answered :
+      {out printed : List ℕ} {last r : ℕ} → last ≡ length input → AllBytes input →
+      AnswersReading told y (take (last - end) (drop end input)) out printed r → Answers input out printed r
+  unfolding response replyTo inputReply replyText settingsPart
+  input-answered {out} {printed} {last} {r} l all s = record { answers = λ long. go long (fileRefusal (scriptPart input)) refl }
+    where
+      go : maxBytes ≤ length out → (f : Option Refusal) → fileRefusal (scriptPart input) ≡ f → Prints (response input) out printed r
+      go long none g =
+          let a = (rw (back-part (scriptLength input) input e l) at s) .read (headCounts (scriptPart input)) (passed-read room script-read g) in
+          rw g (a .answers (scriptPart input) (held room script-read (script-bytes input all) g) (left-bytes (scriptLength input) all) long)
+      go long (some f) g = rw g (s .refused (record { number = f .number; place = f .place }) (refused-read room script-read g))
 
 -- ---- the call
 

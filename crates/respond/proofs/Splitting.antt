@@ -5,18 +5,17 @@ use mathlib.Core.Bool.{Bool, true, false, _&&_}
 use mathlib.Core.List.{List}
 use native.Mathlib.Omega.{arith}
 use lib.IntN.{ℤ}
-use lib.ListN.{length, take, drop, length-drop, drop-of-length-le, List·getD-eq-default}
+use lib.ListN.{length, take, drop, length-drop, drop-of-length-le}
 use lib.Seq.{take-at, take-all}
 use lib.Dec.{leb, ltb, eqb}
 use borrow.Author.Tests.{ltb-true, leb-true, leb-false}
 use Rattle.lambdamix.specs.Structure.{firstFailing}
 use Rattle.script.specs.declared.Counts.{Counts}
-use Rattle.script.specs.Bytes.{byteAt, word16}
-use Rattle.file.specs.Encodable.{AllBytes}
+use Rattle.script.specs.Bytes.{word16}
 use Rattle.script.specs.File.{numbered, fileLength, nodeOffset, headTypes, headInputs, headNodes}
 use Rattle.script.specs.Refusals.{headMarked, countsRight, isNone}
 use Rattle.script.specs.Tables.{Tables, over}
-use Rattle.file.proofs.RecordLaws.{numbered-length}
+use Rattle.script.proofs.Numbered.{length-numbered}
 use Rattle.specializer.specs.Making.{Stores, storesSuffice}
 use Rattle.specializer.specs.declared.Reply.{Reply}
 use Rattle.specializer.specs.Entry.{Makes}
@@ -24,13 +23,12 @@ use Rattle.respond.specs.Response.{programFuel, programSettings, headRig
 use Rattle.respond.specs.Given.{givenBy, givenCount, givenSettings}
 use Rattle.respond.specs.Stages.{MakesGiven}
 
--- a list without elements holds bytes: zeros
-pub empty-bytes : {bs : List ℕ} → length bs ≤ 0 → AllBytes bs
-unfolding byteAt
-empty-bytes {bs} h =
-    record {
-      below = λ i. let past : length bs ≤ i = omega arith in rw (List·getD-eq-default bs 0 past) (omega arith);
-    }
+-- where a script begins, and that it ends within its input
+pub from-start : (e : ℕ) → 0 ≤ e
+from-start e = omega arith
+
+pub end-within : (k n : ℕ) {e : ℕ} → e ≡ min k n → e ≤ n
+end-within k n h = omega arith
 
 module _ (bs : List ℕ) where
   pub length-by :
@@ -38,15 +36,6 @@ module _ (bs : List ℕ) where
       scriptLengthBy (a && (b && c)) bs ≡ scriptLength bs
   unfolding scriptLength headRight
   length-by p q r = rw (p, q, r)
-
-  module _ {t i n : ℕ} (et : t ≡ word16 bs 2) (ei : i ≡ word16 bs 4) (en : n ≡ word16 bs 6) where
-    pub head-length : 8 + 6 * t + 4 * i + 13 * n ≡ fileLength (headTypes bs) (headInputs bs) (headNodes bs)
-    unfolding fileLength nodeOffset headTypes headInputs headNodes
-    head-length = rw (et, ei, en)
-
-    pub head-counts : {x b : Bool} → x ≡ countsRight t i n → x ≡ b → countsRight (headTypes bs) (headInputs bs) (headNodes bs) ≡ b
-    unfolding headTypes headInputs headNodes
-    head-counts p q = rw (← et, ← ei, ← en) (sym p ∙ q)
 
   pub given-by :
       {f m a : Bool} → ltb (length bs / 6) programSettings ≡ f → eqb (length bs % 6) 0 ≡ m →
@@ -72,7 +61,7 @@ decoded {ws} {count} zs rest e d =
     let z : count - 0 ≡ count = omega arith in
     ap (λ (k : ℕ). take k ws) z
     ∙ ap (take count) d
-    ∙ take-at (numbered (settingAt rest) 0 count) _ count (numbered-length (settingAt rest) 0 count)
+    ∙ take-at (numbered (settingAt rest) 0 count) _ count (length-numbered (settingAt rest) 0 count)
     ∙ ap (numbered (settingAt rest) 0) e
 
 pub makes-given :

@@ -5,11 +5,15 @@ use mathlib.Core.Bool.{Bool, true, false}
 use mathlib.Core.List.{List, _++_}
 use mathlib.Core.Option.{none}
 use lib.ListN.{length, take}
+use lib.Dec.{ltb}
 use Rattle.lambdamix.specs.Limits.{maxTypes, maxInputs, maxNodes}
 use Rattle.lambdamix.specs.Script.{Script}
 use Rattle.lambdamix.specs.Text.{ascii, digits}
 use Rattle.lambdamix.specs.Listing.{listing}
 use Rattle.script.specs.declared.Counts.{Counts}
+use Rattle.script.specs.declared.Refusal.{Refusal}
+use Rattle.script.specs.declared.Reading.{Reading}
+use Rattle.script.specs.declared.Reading.the-variants as Reading
 use Rattle.script.specs.File.{fileLength, scriptIn}
 use Rattle.script.specs.Refusals.{fileRefusal}
 use Rattle.file.specs.Heads.{headCounts}
@@ -20,7 +24,7 @@ use Rattle.printer.specs.Answers.{tablesText}
 use Rattle.specializer.specs.declared.Reply.{Reply}
 use Rattle.specializer.specs.Making.{Stores, storesSuffice, making}
 use Rattle.specializer.specs.Entry.{given}
-use Rattle.respond.specs.Response.{programFuel, maxBytes, wholeSettings, settingsReply, replyText, response}
+use Rattle.respond.specs.Response.{programFuel, maxBytes, wholeSettings, settingsReply, unmadeText, replyText, response}
 use Rattle.respond.specs.Given.{givenSettings}
 
 -- a text that fits is printed
@@ -53,6 +57,10 @@ pub record ListsAt (n : Counts) (x : Tables) (at : ℕ) (before after : List ℕ
   pub lists :
       tablesRefusal (n .types) (n .inputs) (n .nodes) x ≡ none → at + length (tablesText n x) ≤ length before →
       Placed (tablesText n x) at before after r
+
+-- the same of the reader's answer
+pub record ListsReading (told : Reading) (x : Tables) (at : ℕ) (before after : List ℕ) (r : ℕ) : Type 0 where
+  pub read : (n : Counts) → told ≡ Reading.Read n → ListsAt n x at before after r
 
 -- a listing stands at a place
 pub record ListedAt (s : Script) (at : ℕ) (before after : List ℕ) (r : ℕ) : Type 0 where
@@ -88,6 +96,11 @@ pub record AnswersScript (n : Counts) (x : Tables) (rest out printed : List ℕ)
   pub answers :
       (bs : List ℕ) → Held bs n x → AllBytes rest → maxBytes ≤ length out →
       Prints (replyText (scriptIn bs) (settingsReply (wholeSettings rest) (scriptIn bs) rest)) out printed r
+
+-- the reader's answer is answered: a refusal is told as it is
+pub record AnswersReading (told : Reading) (x : Tables) (rest out printed : List ℕ) (r : ℕ) : Type 0 where
+  pub refused : (f : Refusal) → told ≡ Reading.Refused f → Prints (unmadeText (ltb (f .number) 20) (f .number) (f .place)) out printed r
+  pub read : (n : Counts) → told ≡ Reading.Read n → AnswersScript n x rest out printed r
 
 -- an input is answered
 pub record Answers (input out printed : List ℕ) (r : ℕ) : Type 0 where

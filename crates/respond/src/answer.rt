@@ -1,12 +1,9 @@
 // The program's answer to an input.
 use crate::Response;
 use crate::limits::MAX_BYTES;
-use crate::print::print_unmade;
-use crate::split::known;
 use crate::split::script_end;
 use crate::stage::answer_script;
 use file::reader::read;
-use script::Reading;
 use script::limits::MAX_INPUTS;
 use script::limits::MAX_NODES;
 use script::limits::MAX_TYPES;
@@ -20,7 +17,6 @@ fn answer(input: &[u8], out: &mut [u8]) -> usize
     let first = 0;
     let end = script_end(input);
     let last = input.len();
-    known(input);
     let mut parameters = [0u16; MAX_TYPES];
     let mut results = [0u16; MAX_TYPES];
     let mut inputs = [0u16; MAX_INPUTS];
@@ -29,7 +25,7 @@ fn answer(input: &[u8], out: &mut [u8]) -> usize
     let mut b = [0u16; MAX_NODES];
     let mut c = [0u16; MAX_NODES];
     let mut values = [0i32; MAX_NODES];
-    match read(
+    let told = read(
         &input[first..end],
         &mut parameters,
         &mut results,
@@ -39,22 +35,20 @@ fn answer(input: &[u8], out: &mut [u8]) -> usize
         &mut b,
         &mut c,
         &mut values,
-    ) {
-        Reading::Refused(f) => print_unmade(out, f.number, f.place),
-        Reading::Read(n) => answer_script(
-            n,
-            &input[end..last],
-            &parameters,
-            &results,
-            &inputs,
-            &kinds,
-            &a,
-            &b,
-            &c,
-            &values,
-            out,
-        ),
-    }
+    );
+    answer_script(
+        told,
+        &input[end..last],
+        &parameters,
+        &results,
+        &inputs,
+        &kinds,
+        &a,
+        &b,
+        &c,
+        &values,
+        out,
+    )
 }
 
 // Every input is answered by the bytes that the program prints for it.

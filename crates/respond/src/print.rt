@@ -6,12 +6,12 @@ use printer::parts::further;
 use printer::parts::least;
 use printer::parts::part_at;
 use printer::parts::text_at;
-use script::Counts;
+use script::Reading;
 ghost use lib.Dec.{ltb};
 ghost use Rattle.script.specs.Columns.{tablesOf};
 ghost use Rattle.printer.specs.Places.{Placed};
 ghost use Rattle.respond.specs.Response.{unmadeText};
-ghost use Rattle.respond.specs.Stages.{opening, CountsPlaced, Prints, ListsAt};
+ghost use Rattle.respond.specs.Stages.{opening, CountsPlaced, Prints, ListsReading};
 
 // What stands before number and place.
 fn opening_at(out: &mut [u8], number: u8) -> usize
@@ -45,9 +45,9 @@ pub(crate) fn print_counts(out: &mut [u8], steps: u16, nodes: u16) -> usize
     part_at(out, four, Part::Letter(b'\n'))
 }
 
-// The listing of counts and tables from a place of the output on.
+// The listing of what was read, from a place of the output on.
 pub(crate) fn list_at(
-    n: Counts,
+    told: Reading,
     parameters: &[u16],
     results: &[u16],
     inputs: &[u16],
@@ -59,23 +59,28 @@ pub(crate) fn list_at(
     out: &mut [u8],
     at: usize,
 ) -> usize
-    ensures { λ r. ⌜ ListsAt n (tablesOf (now (parameters .entry)) (now (results .entry)) (now (inputs .entry)) (now (kinds .entry)) (now (a .entry)) (now (b .entry)) (now (c .entry)) (now (values .entry))) at (now (out .entry)) (now (out .exit)) r ⌝ }
+    ensures { λ r. ⌜ ListsReading told (tablesOf (now (parameters .entry)) (now (results .entry)) (now (inputs .entry)) (now (kinds .entry)) (now (a .entry)) (now (b .entry)) (now (c .entry)) (now (values .entry))) at (now (out .entry)) (now (out .exit)) r ⌝ }
 {
-    let from = least(at, out.len());
-    let answer = list(
-        n,
-        parameters,
-        results,
-        inputs,
-        kinds,
-        a,
-        b,
-        c,
-        values,
-        &mut out[from..],
-    );
-    match answer {
-        Listing::Listed(k) => further(at, k),
-        Listing::Refused(_) => at,
+    match told {
+        Reading::Refused(_) => at,
+        Reading::Read(n) => {
+            let from = least(at, out.len());
+            let answer = list(
+                n,
+                parameters,
+                results,
+                inputs,
+                kinds,
+                a,
+                b,
+                c,
+                values,
+                &mut out[from..],
+            );
+            match answer {
+                Listing::Listed(k) => further(at, k),
+                Listing::Refused(_) => at,
+            }
+        }
     }
 }

@@ -1,7 +1,7 @@
 // The settings behind a script: a record `SV` for each.
 use crate::limits::SETTINGS;
-use crate::split::is_marked;
 use file::bytes::value32;
+use file::marks::marked;
 use script::column::put32;
 ghost use mathlib.Core.Path.{_≡_};
 ghost use Prim.Native.Nat.{_<_, _≤_};
@@ -20,7 +20,7 @@ fn all_marked(s: &[u8], count: usize) -> bool
 {
     let mut j = 0;
     while j < count {
-        if is_marked(s, 6 * j, b'S', b'V') {
+        if marked(s, 6 * j, b'S', b'V') {
             j += 1;
         } else {
             return false;

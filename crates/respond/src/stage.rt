@@ -9,19 +9,18 @@ use crate::print::print_counts;
 use crate::print::print_unmade;
 use crate::settings::decode;
 use crate::settings::given_count;
-use crate::split::known;
 use file::reader::read;
-use file::writer::file_size;
 use printer::parts::least;
 use script::Counts;
 use script::Reading;
 use script::limits::MAX_INPUTS;
 use script::limits::MAX_NODES;
 use script::limits::MAX_TYPES;
+use script::place::file_size;
 use specializer::Reply;
 use specializer::make::make;
 ghost use Rattle.script.specs.Columns.{tablesOf};
-ghost use Rattle.respond.specs.Stages.{MakesGiven, ListsFile, PrintsMade, AnswersScript};
+ghost use Rattle.respond.specs.Stages.{MakesGiven, ListsFile, PrintsMade, AnswersReading};
 
 // The maker on a script that was read, with the settings that follow it and stores that start as zeros.
 fn make_given(
@@ -67,7 +66,6 @@ fn make_given(
 fn list_file(file: &[u8], out: &mut [u8], at: usize) -> usize
     ensures { λ r. ⌜ ListsFile (now (file .entry)) at (now (out .entry)) (now (out .exit)) r ⌝ }
 {
-    known(file);
     let mut parameters = [0u16; MAX_TYPES];
     let mut results = [0u16; MAX_TYPES];
     let mut inputs = [0u16; MAX_INPUTS];
@@ -76,7 +74,7 @@ fn list_file(file: &[u8], out: &mut [u8], at: usize) -> usize
     let mut b = [0u16; MAX_NODES];
     let mut c = [0u16; MAX_NODES];
     let mut values = [0i32; MAX_NODES];
-    match read(
+    let told = read(
         file,
         &mut parameters,
         &mut results,
@@ -86,22 +84,20 @@ fn list_file(file: &[u8], out: &mut [u8], at: usize) -> usize
         &mut b,
         &mut c,
         &mut values,
-    ) {
-        Reading::Refused(_) => at,
-        Reading::Read(n) => list_at(
-            n,
-            &parameters,
-            &results,
-            &inputs,
-            &kinds,
-            &a,
-            &b,
-            &c,
-            &values,
-            out,
-            at,
-        ),
-    }
+    );
+    list_at(
+        told,
+        &parameters,
+        &results,
+        &inputs,
+        &kinds,
+        &a,
+        &b,
+        &c,
+        &values,
+        out,
+        at,
+    )
 }
 
 // Finished code, of a count of inputs, from the file that the maker wrote.
@@ -119,9 +115,9 @@ fn print_made(inputs: u16, steps: u16, nodes: u16, file: &[u8], out: &mut [u8]) 
     list_file(&file[first..end], out, at)
 }
 
-// A script that was read, with what follows it.
+// What was read, with what follows it; a refusal is told as it is.
 pub(crate) fn answer_script(
-    n: Counts,
+    told: Reading,
     rest: &[u8],
     parameters: &[u16],
     results: &[u16],
@@ -133,24 +129,29 @@ pub(crate) fn answer_script(
     values: &[i32],
     out: &mut [u8],
 ) -> usize
-    ensures { λ r. ⌜ AnswersScript n (tablesOf (now (parameters .entry)) (now (results .entry)) (now (inputs .entry)) (now (kinds .entry)) (now (a .entry)) (now (b .entry)) (now (c .entry)) (now (values .entry))) (now (rest .entry)) (now (out .entry)) (now (out .exit)) r ⌝ }
+    ensures { λ r. ⌜ AnswersReading told (tablesOf (now (parameters .entry)) (now (results .entry)) (now (inputs .entry)) (now (kinds .entry)) (now (a .entry)) (now (b .entry)) (now (c .entry)) (now (values .entry))) (now (rest .entry)) (now (out .entry)) (now (out .exit)) r ⌝ }
 {
-    let mut file = [0u8; MAX_BYTES];
-    let reply = make_given(
-        n,
-        rest,
-        parameters,
-        results,
-        inputs,
-        kinds,
-        a,
-        b,
-        c,
-        values,
-        &mut file,
-    );
-    match reply {
-        Reply::Unmade(f, _) => print_unmade(out, f.number, f.place),
-        Reply::Made(steps, nodes) => print_made(n.inputs, steps, nodes, &file, out),
+    match told {
+        Reading::Refused(f) => print_unmade(out, f.number, f.place),
+        Reading::Read(n) => {
+            let mut file = [0u8; MAX_BYTES];
+            let reply = make_given(
+                n,
+                rest,
+                parameters,
+                results,
+                inputs,
+                kinds,
+                a,
+                b,
+                c,
+                values,
+                &mut file,
+            );
+            match reply {
+                Reply::Unmade(f, _) => print_unmade(out, f.number, f.place),
+                Reply::Made(steps, nodes) => print_made(n.inputs, steps, nodes, &file, out),
+            }
+        }
     }
 }

@@ -6,7 +6,7 @@ use mathlib.Core.List.{List, [], _∷_}
 use mathlib.Core.Option.{Option, none, some}
 use mathlib.Core.Logic.{⊎-elim}
 use native.Mathlib.Omega.{arith}
-use lib.ListN.{getD, length}
+use lib.ListN.{length}
 use lib.Dec.{leb, ltb}
 use borrow.Author.Tests.{ltb-true, eqb-true}
 use Rattle.lambdamix.specs.declared.Use.{Use}
@@ -19,22 +19,11 @@ use Rattle.script.specs.File.{numbered}
 use Rattle.script.specs.Refusals.{fieldRight, fieldsRight, nodeFits}
 use Rattle.script.specs.Tables.{Tables, rowNode, rowInput, tablesScript}
 use Rattle.script.specs.Walks.{columnsOf, usesBelow, usedOnceAt, heightAt, tooHighAt, unboundAt}
-use Rattle.script.proofs.FirstFailing.{first-same}
-use Rattle.script.proofs.Lowest.{none-failing}
+use Rattle.script.proofs.Numbered.{length-numbered, getD-numbered}
+use Rattle.script.proofs.RefusalLaws.{passes}
+use Rattle.script.proofs.Searching.{first-same}
 use Rattle.script.proofs.Reaching.{IsChildOf, walk-finds-lowest}
 use Rattle.script.proofs.TreeForms.{children-at, height-tree, unbound-tree}
-
-length-numbered : {A : Type 0} (f : ℕ → A) (k n : ℕ) → length (numbered f k n) ≡ n
-unfolding numbered
-length-numbered f k zero = refl
-length-numbered f k (suc n) = ap suc (length-numbered f (suc k) n)
-
-getD-numbered : {A : Type 0} (f : ℕ → A) (d : A) (k n i : ℕ) → i < n → getD (numbered f k n) i d ≡ f (k + i)
-unfolding numbered
-getD-numbered f d k zero i h = let z : ⊥ = omega arith in absurd z
-getD-numbered f d k (suc n) zero h = let e : k + 0 ≡ k = omega arith in rw e
-getD-numbered f d k (suc n) (suc i) h =
-    let e : suc k + i ≡ k + suc i = omega arith in getD-numbered f d (suc k) n i (omega arith) ∙ ap f e
 
 -- a last node's children are counted last
 uses-more :
@@ -88,7 +77,7 @@ module _ (t i n : ℕ) (x : Tables) where
 
   script-node : (j : ℕ) → j < n → nodeAt (tablesScript t i n x) j ≡ rowNode x j
   unfolding tablesScript nodeAt
-  script-node j h = let e : 0 + j ≡ j = omega arith in getD-numbered (rowNode x) blankNode 0 n j h ∙ ap (rowNode x) e
+  script-node j h = let e : 0 + j ≡ j = omega arith in getD-numbered (rowNode x) 0 n blankNode j h ∙ ap (rowNode x) e
 
   script-count : nodeCount (tablesScript t i n x) ≡ n
   unfolding nodeCount tablesScript
@@ -126,7 +115,7 @@ module _ (t i n : ℕ) (x : Tables) where
         ∙ first-same (lowEnough (tablesScript t i n x)) (λ j. leb (heightAt (columnsOf x) j) maxHeight) 0 n
         (λ j l. rw (height-tree x (tablesScript t i n x) n script-node j (omega arith)))
         ∙ sym (walk-finds-lowest (columnsOf x) n script-falls h
-        (λ j l. eqb-true _ 1 (none-failing (usedOnceAt (columnsOf x) n) (n - 1) e j l))))
+        (λ j l. eqb-true _ 1 (passes (usedOnceAt (columnsOf x) n) (n - 1) e j l))))
 
     -- Refusals 6, 7 and 8 of the script are what the walks on the columns find.
     pub structure-agrees :

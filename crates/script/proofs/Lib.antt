@@ -1,6 +1,9 @@
+pub mod Numbered
 pub mod TableLaws
 pub mod RefusalLaws
-pub mod FirstFailing
+pub mod Sound
+pub mod Verdicts
+pub mod Searching
 pub mod Shapes
 pub mod UseCounts
 pub mod Lowest

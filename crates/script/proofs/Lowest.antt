@@ -60,14 +60,6 @@ lowest-failing p i (suc n) = go (p i) refl (lowest-failing p (suc i) n)
         (λ j u. (⊎-elim (λ q. absurd (true≢false (sym e ∙ ap p q ∙ u .1 .1))) (λ l. l) (eq-or-lt-of-le (u .0)), (omega (arith, u .1 .0), u .1 .1))) h
     go false e h = first (le-refl i, (omega arith, e)) (λ j u. u .0)
 
--- a search that finds nothing has seen each number pass
-pub none-failing : (p : ℕ → Bool) (n : ℕ) → firstFailing p 0 n ≡ none → (j : ℕ) → j < n → p j ≡ true
-none-failing p n e j l = go (p j) refl (subst (Lowest _) e (lowest-failing p 0 n))
-  where
-    go : (b : Bool) → p j ≡ b → Lowest (λ k. (0 ≤ k) × ((k < 0 + n) × (p k ≡ false))) none → b ≡ true
-    go true q h = refl
-    go false q (nowhere h) = absurd (h j (omega arith, (omega arith, q)))
-
 -- the lowest of the answers at some numbers is the lowest of all that holds there
 pub lowest-gathered :
     (Q : ℕ → ℕ → Type 0) (self : ℕ → Option ℕ) (ms : List ℕ) → ((m : ℕ) → member m ms ≡ true → Lowest (Q m) (self m))

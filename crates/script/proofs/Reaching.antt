@@ -2,17 +2,17 @@
 -- So the walk's lowest place that fails is the lowest of all nodes. Assumes nothing.
 use Prim.Native.Nat.{ℕ, zero, suc, _+_, _-_, _≤_, _<_}
 use mathlib.Core.Path.{_≡_, refl, sym, subst}
-use mathlib.Core.Bool.{Bool, true, false, _||_}
-use mathlib.Core.List.{List, [], _∷_}
+use mathlib.Core.Bool.{true, false}
 use mathlib.Core.Option.{none}
 use mathlib.Core.Logic.{_⊎_, inl, inr, ⊎-elim}
 use native.Mathlib.Omega.{arith}
 use native.Mathlib.Nat.{eq-or-lt-of-le, le-refl}
-use lib.Dec.{leb, eqb}
+use lib.Dec.{leb}
 use Rattle.lambdamix.specs.Limits.{maxHeight}
 use Rattle.lambdamix.specs.Falling.{below}
-use Rattle.lambdamix.specs.Structure.{oneIf, occurrences, member, firstFailing}
+use Rattle.lambdamix.specs.Structure.{occurrences, member, firstFailing}
 use Rattle.lambdamix.proofs.Falling.{below-at, falling-step}
+use Rattle.lambdamix.proofs.Structure.{occurs-member}
 use Rattle.script.specs.Words.{Columns}
 use Rattle.script.specs.Walks.{childrenAt, usesBelow, heightAt, tooHighStep, tooHighAt}
 use Rattle.script.proofs.Lowest.{Lowest, lowest-one, lowest-of, lowest-both, lowest-own, lowest-failing, lowest-gathered}
@@ -37,15 +37,6 @@ split here = inl refl
 split {x} {r} (further {i} {j} p d) =
     ⊎-elim (λ e. inr (j, subst (λ (k : ℕ). IsChildOf x k j) e d, here)) (λ u. inr (u .0, u .1, further (u .2) d)) (split p)
 
-pub occurring : (j : ℕ) (ms : List ℕ) → 0 < occurrences j ms → member j ms ≡ true
-unfolding occurrences member oneIf
-occurring j [] h = let z : ⊥ = omega arith in absurd z
-occurring j (m ∷ ms) h = go (eqb m j) h (occurring j ms)
-  where
-    go : (b : Bool) → 0 < oneIf b + occurrences j ms → (0 < occurrences j ms → member j ms ≡ true) → (b || member j ms) ≡ true
-    go true l f = refl
-    go false l f = f (omega arith)
-
 -- a node that is used has a parent
 user : (x : Columns) (n j : ℕ) → 0 < usesBelow x n j → (i : ℕ) × (i < n) × IsChildOf x i j
 unfolding usesBelow
@@ -55,7 +46,7 @@ user x (suc n) j h = go (occurrences j (childrenAt x n)) refl (user x n j)
     go : (k : ℕ) → occurrences j (childrenAt x n) ≡ k
         → (0 < usesBelow x n j → (i : ℕ) × (i < n) × IsChildOf x i j) → (i : ℕ) × (i < suc n) × IsChildOf x i j
     go zero e f = let u = f (omega (arith, e, h)) in (u .0, omega (arith, u .1), u .2)
-    go (suc k) e f = (n, omega arith, occurring j (childrenAt x n) (omega (arith, e)))
+    go (suc k) e f = (n, omega arith, occurs-member j (childrenAt x n) (omega (arith, e)))
 
 module _ (x : Columns) (n : ℕ) (falls : (i j : ℕ) → i < n → IsChildOf x i j → j < i) where
   -- Each node is reached from the root, if each but the root is used at one place.

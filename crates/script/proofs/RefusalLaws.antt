@@ -1,13 +1,15 @@
 -- What a refusal that is none says of its parts, and back: for the steps of an order, for one test and for a test of records
 -- in a row. Assumes nothing.
 use Prim.Native.Nat.{ℕ, zero, suc, _+_, _<_}
-use mathlib.Core.Path.{_≡_, refl, ap, _∙_}
+use mathlib.Core.Path.{_≡_, refl, sym, ap, _∙_}
 use mathlib.Core.Bool.{Bool, true, false}
 use mathlib.Core.Option.{Option, none, some}
+use mathlib.Core.Logic.{_⊎_, inl, inr}
 use lib.Dec.{leb}
 use native.Mathlib.Omega.{arith}
 use Rattle.lambdamix.specs.Checker.{Refusal}
-use Rattle.lambdamix.specs.Structure.{firstBy, firstFailing, orElse, refusedUnless}
+use Rattle.lambdamix.specs.Structure.{firstBy, firstFailing, orElse, refusedAt, refusedUnless}
+use Rattle.lambdamix.proofs.Structure.{none-fails}
 use Rattle.script.specs.Refusals.{refusedRecord, earlier, earlierBy}
 
 some-not-none : {A : Type 0} {a : A} → some a ≡ none → ⊥
@@ -42,7 +44,27 @@ pub pass-over : {t : Bool} (k p : ℕ) (r : Option Refusal) → t ≡ true → o
 unfolding refusedUnless orElse
 pass-over k p r e = rw e
 
--- ---- records in a row
+pub either-some : {A : Type 0} (r s : Option A) {a : A} → orElse r s ≡ some a → (r ≡ some a) ⊎ (s ≡ some a)
+unfolding orElse
+either-some none s e = inr e
+either-some (some b) s e = inl e
+
+-- ---- nodes and records in a row
+
+pub node-number : (k : ℕ) (r : Option ℕ) {f : Refusal} → refusedAt k r ≡ some f → f .number ≡ k
+unfolding refusedAt
+node-number k none e = absurd (some-not-none (sym e))
+node-number k (some i) {f} e = cc
+
+pub record-number : (k : ℕ) (offset : ℕ → ℕ) (r : Option ℕ) {f : Refusal} → refusedRecord k offset r ≡ some f → f .number ≡ k
+unfolding refusedRecord
+record-number k offset none e = absurd (some-not-none (sym e))
+record-number k offset (some j) {f} e = cc
+
+pub no-node : (k : ℕ) (r : Option ℕ) → refusedAt k r ≡ none → r ≡ none
+unfolding refusedAt
+no-node k none e = refl
+no-node k (some i) e = absurd (some-not-none e)
 
 pub no-record : (k : ℕ) (offset : ℕ → ℕ) (r : Option ℕ) → refusedRecord k offset r ≡ none → r ≡ none
 unfolding refusedRecord
@@ -54,13 +76,6 @@ unfolding firstBy
 firstBy-none true i r e = (refl, e)
 firstBy-none false i r e = absurd (some-not-none e)
 
-none-fails : (p : ℕ → Bool) (i n : ℕ) → ((j : ℕ) → j < n → p (i + j) ≡ true) → firstFailing p i n ≡ none
-unfolding firstFailing firstBy
-none-fails p i zero h = refl
-none-fails p i (suc n) h =
-    let e : p i ≡ true = ap p (omega arith) ∙ h 0 (omega arith) in
-    rw e (none-fails p (suc i) n (λ j l. ap p (omega arith) ∙ h (suc j) (omega arith)))
-
 passes-from : (p : ℕ → Bool) (i n : ℕ) → firstFailing p i n ≡ none → (j : ℕ) → j < n → p (i + j) ≡ true
 unfolding firstFailing
 passes-from p i zero e j l = let z : ⊥ = omega arith in absurd z
@@ -70,7 +85,7 @@ passes-from p i (suc n) e (suc j) l =
 
 -- no record fails exactly if each passes
 pub all-pass : (p : ℕ → Bool) (n : ℕ) → ((j : ℕ) → j < n → p j ≡ true) → firstFailing p 0 n ≡ none
-all-pass p n h = none-fails p 0 n (λ j l. ap p (omega arith) ∙ h j l)
+all-pass p n h = none-fails p 0 n (λ j l k. h j (omega arith))
 
 pub passes : (p : ℕ → Bool) (n : ℕ) → firstFailing p 0 n ≡ none → (j : ℕ) → j < n → p j ≡ true
 passes p n e j l = ap p (omega arith) ∙ passes-from p 0 n e j l

@@ -17,7 +17,7 @@ use Rattle.script.specs.Tables.{Tables, rowNode, tablesScript}
 use Rattle.script.specs.Refusals.{nodeFits}
 use Rattle.script.specs.Words.{Packed, Columns, columnsIn}
 use Rattle.script.specs.Walks.{columnsOf, useAt, keptIf, childrenAt, usesBelow, usedOnceAt, heightStep, heightAt, tooHighStep, tooHighAt, unboundName, unboundUnder, unboundStep, unboundAt}
-use Rattle.script.proofs.FirstFailing.{first-same}
+use Rattle.script.proofs.Searching.{first-same}
 use Rattle.script.proofs.Agreement.{structure-agrees}
 
 -- steps that agree below n give the same answers below n

@@ -45,9 +45,3 @@ FoundBelow n f = (j : ℕ) → foundAt f ≡ some j → j < n
 unfoldable pub enough : ℕ → ℕ → ℕ → ℕ → ℕ → ℕ → ℕ → ℕ → ℕ → ℕ → ℕ → Bool
 enough t i n ps rs is ks xs ys zs vs =
     (leb t ps && leb t rs) && (leb i is && ((leb n ks && leb n xs) && (leb n ys && (leb n zs && leb n vs))))
-
--- a first place, a distance and a number of records so small that every place fits a word
-pub record Spaced (first stride count : ℕ) : Type 0 where
-  pub first-small : first < 16777216
-  pub stride-small : stride < 65536
-  pub count-small : count < 65536

@@ -1,7 +1,8 @@
-// The script: its tables' words, the limits, the columns, and the checks of structure that reader, writer and checks share.
+// The script: its tables' words, the limits, the columns, the places of records, and the checks of structure that all share.
 pub mod column;
 pub mod kinds;
 pub mod limits;
+pub mod place;
 pub mod structure;
 pub mod word;
 

@@ -1,4 +1,5 @@
 // The limits of a script, each in one place.
+use crate::Counts;
 ghost use mathlib.Core.Path.{_≡_};
 ghost use Rattle.script.specs.Refusals.{countsRight};
 
@@ -14,9 +15,12 @@ pub const MAX_HEIGHT: usize = 256;
 pub const FEW_NODES: usize = 256;
 
 // "64 listed types, 16 inputs, 1 to 4,096 nodes"
-pub fn counts_right(types: usize, inputs: usize, nodes: usize) -> bool
-    ensures { λ r. ⌜ r ≡ countsRight types inputs nodes ⌝ }
+pub fn counts_right(n: Counts) -> bool
+    ensures { λ r. ⌜ r ≡ countsRight (n .types) (n .inputs) (n .nodes) ⌝ }
 {
+    let types = n.types as usize;
+    let inputs = n.inputs as usize;
+    let nodes = n.nodes as usize;
     if MAX_TYPES < types {
         return false;
     }

@@ -2,14 +2,13 @@
 // The record tells whether the run is bare, the fuel, how many places of the heap, of the code store and of the output are lent, the
 // settings, and the script file.
 use crate::print;
+use crate::task::Task;
+use crate::task::try_file;
 use file::bytes;
-use file::writer::file_size;
 use script::Counts;
-use script::Reading;
 use script::column;
 use script::limits::MAX_INPUTS;
-use script::limits::MAX_NODES;
-use script::limits::MAX_TYPES;
+use script::place::file_size;
 use specializer::Reply;
 use specializer::limits::MAX_FUEL;
 ghost use Prim.Native.Nat.{_≤_};
@@ -59,12 +58,13 @@ fn print_reply(k: usize, number: u8, place: usize, steps: u16, nodes: u16, sum: 
     print::end();
 }
 
-fn print_answer(k: usize, n: Counts, r: Reply, out: &[u8]) {
+// The head of a made file tells how many inputs it has.
+fn print_answer(k: usize, r: Reply, out: &[u8]) {
     match r {
         Reply::Made(steps, nodes) => {
             let made = Counts {
                 types: 0,
-                inputs: n.inputs,
+                inputs: bytes::word16(out, 4),
                 nodes: nodes,
             };
             let sum = sum_of(out, file_size(made));
@@ -84,160 +84,61 @@ fn read_settings(record: &[u8], count: u16, settings: &mut [i32]) {
     }
 }
 
-fn make(
-    bare: bool,
-    n: Counts,
-    parameters: &[u16],
-    results: &[u16],
-    inputs: &[u16],
-    kinds: &[u8],
-    a: &[u16],
-    b: &[u16],
-    c: &[u16],
-    values: &[i32],
+fn task_of(record: &[u8]) -> Task {
+    if column::at8(record, 0) == 1 {
+        return Task::Bare;
+    }
+    Task::Make
+}
+
+fn try_split(
+    k: usize,
+    record: &[u8],
+    count: u8,
     settings: &[i32],
-    fuel: u32,
     heap: &mut [u64],
     codes: &mut [u64],
     out: &mut [u8],
-) -> Reply {
-    if bare {
-        return specializer::make::bare_run(
-            n,
-            parameters,
-            results,
-            inputs,
-            kinds,
-            a,
-            b,
-            c,
-            values,
-            settings,
-            fuel,
-            heap,
-            codes,
-            out,
-        );
-    }
-    specializer::make::make(
-        n,
-        parameters,
-        results,
-        inputs,
-        kinds,
-        a,
-        b,
-        c,
-        values,
-        settings,
-        fuel,
-        heap,
-        codes,
-        out,
-    )
-}
-
-// The stores and the output are lent as long as the record says.
-fn make_lent(
-    record: &[u8],
-    n: Counts,
-    parameters: &[u16],
-    results: &[u16],
-    inputs: &[u16],
-    kinds: &[u8],
-    a: &[u16],
-    b: &[u16],
-    c: &[u16],
-    values: &[i32],
-    settings: &[i32],
-    out: &mut [u8],
-) -> Reply {
-    let mut heap = [0u64; HEAP];
-    let mut codes = [0u64; CODES];
-    let bare = column::at8(record, 0) == 1;
-    let store = lent(record, 5, HEAP);
-    let code = lent(record, 9, CODES);
-    let first = 0;
-    make(
-        bare,
-        n,
-        parameters,
-        results,
-        inputs,
-        kinds,
-        a,
-        b,
-        c,
-        values,
-        settings,
-        word32(record, 1),
-        &mut heap[first..store],
-        &mut codes[first..code],
-        out,
-    )
-}
-
-// The script file of a record is read, and made.
-fn try_file(k: usize, record: &[u8], file: &[u8], settings: &[i32], out: &mut [u8]) {
-    let mut parameters = [0u16; MAX_TYPES];
-    let mut results = [0u16; MAX_TYPES];
-    let mut inputs = [0u16; MAX_INPUTS];
-    let mut kinds = [0u8; MAX_NODES];
-    let mut a = [0u16; MAX_NODES];
-    let mut b = [0u16; MAX_NODES];
-    let mut c = [0u16; MAX_NODES];
-    let mut values = [0i32; MAX_NODES];
-    let answer = file::reader::read(
-        file,
-        &mut parameters,
-        &mut results,
-        &mut inputs,
-        &mut kinds,
-        &mut a,
-        &mut b,
-        &mut c,
-        &mut values,
-    );
-    match answer {
-        Reading::Read(n) => {
-            let r = make_lent(
-                record,
-                n,
-                &parameters,
-                &results,
-                &inputs,
-                &kinds,
-                &a,
-                &b,
-                &c,
-                &values,
-                settings,
-                out,
-            );
-            print_answer(k, n, r, out);
-        }
-        Reading::Refused(f) => print_reply(k, f.number, f.place, 0, 0, 0),
-    }
-}
-
-fn try_split(k: usize, record: &[u8], count: u8, settings: &[i32], out: &mut [u8]) {
+) {
     let given = count as usize;
     let at = 18 + 4 * given;
     let end = record.len();
     if at <= end {
         if given <= settings.len() {
             let first = 0;
-            try_file(k, record, &record[at..end], &settings[first..given], out);
+            let r = try_file(
+                task_of(record),
+                &record[at..end],
+                &settings[first..given],
+                word32(record, 1),
+                heap,
+                codes,
+                out,
+            );
+            print_answer(k, r, out);
         }
     }
 }
 
+// The stores and the output are lent as long as the record says.
 pub(crate) fn try_call(k: usize, record: &[u8]) {
     let mut settings = [0i32; 255];
+    let mut heap = [0u64; HEAP];
+    let mut codes = [0u64; CODES];
     let mut space = [0u8; 65536];
     let count = column::at8(record, 17);
     read_settings(record, count as u16, &mut settings);
     let first = 0;
+    let store = lent(record, 5, HEAP);
+    let code = lent(record, 9, CODES);
     let room = lent(record, 13, 65536);
-    try_split(k, record, count, &settings, &mut space[first..room]);
+    try_split(
+        k,
+        record,
+        count,
+        &settings,
+        &mut heap[first..store],
+        &mut codes[first..code],
+        &mut space[first..room],
+    );
 }

@@ -5,6 +5,7 @@ mod answers;
 mod calls;
 mod print;
 mod scripts;
+mod task;
 
 // Which functions the records of a file go through.
 enum Kind {

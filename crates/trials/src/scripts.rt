@@ -1,10 +1,8 @@
 // A script through the reader and, if it is read, through the checker: number and place of its refusal; 0 0 is an accepted script.
 use crate::print;
-use script::Reading;
-use script::Verdict;
-use script::limits::MAX_INPUTS;
-use script::limits::MAX_NODES;
-use script::limits::MAX_TYPES;
+use crate::task::Task;
+use crate::task::try_file;
+use specializer::Reply;
 
 fn print_line(k: usize, number: u8, place: usize) {
     print::first(k);
@@ -13,48 +11,23 @@ fn print_line(k: usize, number: u8, place: usize) {
     print::end();
 }
 
-fn print_verdict(k: usize, told: Verdict) {
-    match told {
-        Verdict::Passed => print_line(k, 0, 0),
-        Verdict::Refused(f) => print_line(k, f.number, f.place),
-    }
-}
-
+// The checker wants neither settings nor stores nor output.
 pub(crate) fn try_script(k: usize, file: &[u8]) {
-    let mut parameters = [0u16; MAX_TYPES];
-    let mut results = [0u16; MAX_TYPES];
-    let mut inputs = [0u16; MAX_INPUTS];
-    let mut kinds = [0u8; MAX_NODES];
-    let mut a = [0u16; MAX_NODES];
-    let mut b = [0u16; MAX_NODES];
-    let mut c = [0u16; MAX_NODES];
-    let mut values = [0i32; MAX_NODES];
-    let answer = file::reader::read(
+    let settings = [0i32; 1];
+    let mut heap = [0u64; 1];
+    let mut codes = [0u64; 1];
+    let mut out = [0u8; 1];
+    let r = try_file(
+        Task::Check,
         file,
-        &mut parameters,
-        &mut results,
-        &mut inputs,
-        &mut kinds,
-        &mut a,
-        &mut b,
-        &mut c,
-        &mut values,
+        &settings,
+        0,
+        &mut heap,
+        &mut codes,
+        &mut out,
     );
-    match answer {
-        Reading::Read(n) => {
-            let told = annotation::check::check(
-                n,
-                &parameters,
-                &results,
-                &inputs,
-                &kinds,
-                &a,
-                &b,
-                &c,
-                &values,
-            );
-            print_verdict(k, told);
-        }
-        Reading::Refused(f) => print_line(k, f.number, f.place),
+    match r {
+        Reply::Made(_, _) => print_line(k, 0, 0),
+        Reply::Unmade(f, _) => print_line(k, f.number, f.place),
     }
 }

@@ -15,13 +15,10 @@ Inv-loop file first stride field count column₀ j₀ column j = Filling (λ k. 
 abbrev μ-loop : tie.MeasureT-loop
 μ-loop file first stride field count column₀ j₀ column j = count - j
 
-field-place-requires : tie.Need-field-place-requires Inv-loop μ-loop
-field-place-requires c κs = omega arith
-
 loop-again : tie.Need-loop-again Inv-loop μ-loop
 loop-again c =
     fill-goes-on _ (c .before .before .before .before .before .before .loop .inv) (c .before .before .before .before .before .loop-test .taken)
-    (toZ-ofZ {w = w32} (record { sfits = c .before .before .before .value32 .ok }) ∙ c .before .before .before .value32 .ensures ∙ ap (λ (k : ℕ). signed32 (word32 (c .before .before .before .before .before .before .before .before .args .file .now) k)) (c .before .before .before .before .field-place .ensures))
+    (toZ-ofZ {w = w32} (record { sfits = c .before .before .before .value32 .ok }) ∙ c .before .before .before .value32 .ensures ∙ ap (λ (k : ℕ). signed32 (word32 (c .before .before .before .before .before .before .before .before .args .file .now) k)) (c .before .before .before .before .place .ensures))
     (c .before .put32 .ensures)
 
 pub fill32-spec : {M : Type 1} → statement M
@@ -31,8 +28,9 @@ fill32-spec =
     Inv-loop
     μ-loop
     (λ c. fill-begins _ _ _ (omega arith))
-    field-place-requires
     (λ c κs. tt)
+    (λ c κs. tt)
+    (λ c. omega arith)
     (λ c κs. tt)
     (λ c. omega arith)
     (λ c. omega arith)

@@ -1,31 +1,29 @@
 -- `file::reader::body_refusal` meets its contract: its own columns hold the file's script. Assumes nothing.
 use mathlib.Core.Path.{refl, sym}
 use Rattle.lambdamix.specs.Limits.{maxTypes, maxInputs, maxNodes}
-use Rattle.file.proofs.ReaderLaws.{counts-here, own-fits, own-holds, body-by-records}
+use Rattle.file.proofs.ReaderLaws.{own-fits, body-by-tables}
 use Rattle.file.proofs.reader.body_refusal.Statement.{statement}
 use Rattle.file.proofs.reader.body_refusal.Tie as tie
 
 fill-tables-requires : tie.Need-fill-tables-requires
 unfolding maxTypes maxInputs maxNodes
 fill-tables-requires c κs =
-    own-fits _ _ (c .before .before .before .before .before .before .before .before .head-counts .ensures) (c .before .before .before .before .before .before .before .before .before .before .pre) refl refl refl refl refl refl refl refl
-
-records-refusal-requires : tie.Need-records-refusal-requires
-unfolding maxNodes
-records-refusal-requires c κs =
-    let k = c .before .before .before .before .before .before .before .before .before .before .before .before .before .before .before .before .fill-tables .kept .1 .1 .1 .1 .1 in (
-      counts-here _ (c .before .before .before .before .before .before .before .before .before .before .before .before .before .before .before .before .before .before .before .before .before .before .before .before .before .head-counts .ensures) (c .before .before .before .before .before .before .before .before .before .before .before .before .before .before .before .before .before .before .before .before .before .before .before .before .before .before .before .pre),
-      own-holds _ (c .before .before .before .before .before .before .before .before .before .before .before .before .before .before .before .before .before .before .before .before .before .before .before .before .before .head-counts .ensures) (c .before .before .before .before .before .before .before .before .before .before .before .before .before .before .before .before .before .before .before .before .before .before .before .before .before .before .before .pre) (k .0) (k .1 .0) (k .1 .1 .0) (k .1 .1 .1 .0) (k .1 .1 .1 .1 .0),
-    )
+    own-fits _ _ (c .before .before .before .before .before .before .before .before .before .head-counts .ensures) (c .before .before .before .before .before .before .before .before .before .before .before .pre) refl refl refl refl refl refl refl refl
 
 returns : tie.Need-returns
+unfolding maxTypes maxInputs maxNodes
 returns c =
-    body-by-records _ (c .before .before .before .before .before .before .before .before .before .before .before .before .before .before .before .before .before .before .before .before .before .before .before .before .before .before .head-counts .ensures) (c .before .before .before .before .before .before .before .before .before .before .before .before .before .before .before .before .before .before .before .before .before .before .before .before .before .before .before .before .pre) _ _ (c .before .before .before .before .before .before .before .before .before .before .before .before .before .before .before .before .before .fill-tables .ensures) (c .records-refusal .ensures)
+    let k = c .before .before .before .before .before .before .before .before .before .before .before .before .before .before .before .before .before .before .fill-tables .kept .1 .1 in
+    let n = c .before .before .before .before .before .before .before .before .before .before .before .before .before .before .before .before .before .before .before .before .before .before .before .before .before .before .before .before .head-counts .ensures in
+    body-by-tables _ n (c .before .before .before .before .before .before .before .before .before .before .before .before .before .before .before .before .before .before .before .before .before .before .before .before .before .before .before .before .before .before .pre) _ (c .before .before .before .before .before .before .before .before .before .before .before .before .before .before .before .before .before .before .fill-tables .ensures)
+    (own-fits _ _ n (c .before .before .before .before .before .before .before .before .before .before .before .before .before .before .before .before .before .before .before .before .before .before .before .before .before .before .before .before .before .before .pre) (k .0) (k .1 .0) (k .1 .1 .0) (k .1 .1 .1 .0) (k .1 .1 .1 .1 .0) (k .1 .1 .1 .1 .1 .0) (k .1 .1 .1 .1 .1 .1 .0) (k .1 .1 .1 .1 .1 .1 .1 .0))
+    (c .before .before .before .before .before .before .before .before .before .before .before .before .before .before .before .before .before .before .before .before .before .before .before .before .before .before .before .mark-refusal .ensures) (c .before .tables-refusal .ensures) (c .marks-first .ensures)
 
 pub body-refusal-spec : {M : Type 1} → statement M
 body-refusal-spec =
     tie.close
     (tie.spec
+    (λ c κs. tt)
     (λ c κs. tt)
     (λ c. refl)
     (λ c. refl)
@@ -44,5 +42,6 @@ body-refusal-spec =
     (λ c. sym (c .before .before .before .before .before .before .before .before .before .before .before .before .before .before .fill-tables .kept .1 .1 .1 .1 .1 .1 .1 .0))
     (λ c. sym (c .before .before .before .before .before .before .before .before .before .before .before .before .before .before .before .fill-tables .kept .1 .1 .1 .1 .1 .1 .1 .1 .0))
     (λ c. sym (c .before .before .before .before .before .before .before .before .before .before .before .before .before .before .before .before .fill-tables .kept .1 .1 .1 .1 .1 .1 .1 .1 .1 .0))
-    records-refusal-requires
+    (λ c κs. tt)
+    (λ c κs. tt)
     returns)

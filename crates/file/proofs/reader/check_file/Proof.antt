@@ -1,20 +1,19 @@
 -- `file::reader::check_file` meets its contract: the head, then the body. Assumes nothing.
 use borrow.Author.Needs.{needs}
-use mathlib.Core.Path.{sym, ap, _∙_}
-use Rattle.script.specs.Replies.{refusalOf}
-use Rattle.file.proofs.ReaderLaws.{head-passes, head-refused, body-after}
+use Rattle.script.proofs.Verdicts.{told-none, told-first, told-then}
+use Rattle.file.proofs.HeadLaws.{file-by-head}
+use Rattle.file.proofs.ReaderLaws.{head-passes}
 use Rattle.file.proofs.reader.check_file.Statement.{statement}
 use Rattle.file.proofs.reader.check_file.Tie as tie
 
 body-refusal-requires : tie.Need-body-refusal-requires
-unfolding refusalOf
-body-refusal-requires c κs = head-passes _ (sym (c .before .before .head-refusal .ensures) ∙ ap refusalOf (c .enum-told .given .1))
+body-refusal-requires c κs = head-passes _ (told-none (c .before .before .head-refusal .ensures) (c .enum-told .given .1))
 
 returns : tie.Need-returns
-returns c = head-refused _ (c .before .before .before .head-refusal .ensures) (c .before .f .given .1)
+returns c = rw file-by-head (told-first (c .before .before .before .head-refusal .ensures) _ (c .before .f .given .1))
 
 returns-2 : tie.Need-returns-2
-returns-2 c = body-after _ (c .before .before .before .head-refusal .ensures) (c .before .enum-told .given .1) (c .body-refusal .ensures)
+returns-2 c = rw file-by-head (told-then (c .before .before .before .head-refusal .ensures) (c .before .enum-told .given .1) (c .body-refusal .ensures))
 
 pub check-file-spec : {M : Type 1} → statement M
 check-file-spec =

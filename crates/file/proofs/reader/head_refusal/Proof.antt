@@ -1,5 +1,4 @@
 -- `file::reader::head_refusal` meets its contract: four tests in their order. Assumes nothing.
-use borrow.Author.Needs.{needs}
 use borrow.Author.Tests.{le-leb, lt-leb, eq-eqb, ne-eqb}
 use mathlib.Core.Path.{refl, sym, _∙_}
 use Rattle.lambdamix.specs.Structure.{orElse, refusedUnless}
@@ -15,22 +14,22 @@ returns c = head-by-tests _ (lt-leb _ _ (c .if1 .taken)) refl refl refl
 returns-2 : tie.Need-returns-2
 unfolding refusalOf refusedUnless orElse
 returns-2 c =
-    head-by-tests _ (le-leb _ _ (c .before .before .before .before .before .before .before .before .before .before .if1 .left)) (sym (c .before .before .before .before .before .before .before .before .before .marked .ensures) ∙ c .before .before .before .before .before .before .before .before .if2 .taken)
-    (counts-told _ (c .before .before .before .before .before .before .before .head-counts .ensures) (c .before .before .before .counts-right .ensures) (c .before .before .if3 .taken))
-    (eq-eqb _ _ (c .if4 .taken ∙ length-told _ (c .before .before .before .before .before .before .before .head-counts .ensures) (c .before .node-offset .ensures)))
+    head-by-tests _ (le-leb _ _ (c .before .before .before .before .before .before .before .if1 .left)) (sym (c .before .before .before .before .before .before .marked .ensures) ∙ c .before .before .before .before .before .if2 .taken)
+    (counts-told _ (c .before .before .before .before .head-counts .ensures) (c .before .before .before .counts-right .ensures) (c .before .before .if3 .taken))
+    (eq-eqb _ _ (c .if4 .taken ∙ length-told _ (c .before .before .before .before .head-counts .ensures) (c .before .file-size .ensures)))
 
 returns-3 : tie.Need-returns-3
 unfolding refusalOf refusedUnless orElse
 returns-3 c =
-    head-by-tests _ (le-leb _ _ (c .before .before .before .before .before .before .before .before .before .before .if1 .left)) (sym (c .before .before .before .before .before .before .before .before .before .marked .ensures) ∙ c .before .before .before .before .before .before .before .before .if2 .taken)
-    (counts-told _ (c .before .before .before .before .before .before .before .head-counts .ensures) (c .before .before .before .counts-right .ensures) (c .before .before .if3 .taken))
-    (ne-eqb _ _ (λ e. c .if4 .left (e ∙ sym (length-told _ (c .before .before .before .before .before .before .before .head-counts .ensures) (c .before .node-offset .ensures)))))
+    head-by-tests _ (le-leb _ _ (c .before .before .before .before .before .before .before .if1 .left)) (sym (c .before .before .before .before .before .before .marked .ensures) ∙ c .before .before .before .before .before .if2 .taken)
+    (counts-told _ (c .before .before .before .before .head-counts .ensures) (c .before .before .before .counts-right .ensures) (c .before .before .if3 .taken))
+    (ne-eqb _ _ (λ e. c .if4 .left (e ∙ sym (length-told _ (c .before .before .before .before .head-counts .ensures) (c .before .file-size .ensures)))))
 
 returns-4 : tie.Need-returns-4
 unfolding refusalOf refusedUnless orElse
 returns-4 c =
-    head-by-tests _ (le-leb _ _ (c .before .before .before .before .before .before .before .before .if1 .left)) (sym (c .before .before .before .before .before .before .before .marked .ensures) ∙ c .before .before .before .before .before .before .if2 .taken)
-    (counts-told _ (c .before .before .before .before .before .head-counts .ensures) (c .before .counts-right .ensures) (c .if3 .left)) refl
+    head-by-tests _ (le-leb _ _ (c .before .before .before .before .before .if1 .left)) (sym (c .before .before .before .before .marked .ensures) ∙ c .before .before .before .if2 .taken)
+    (counts-told _ (c .before .before .head-counts .ensures) (c .before .counts-right .ensures) (c .if3 .left)) refl
 
 returns-5 : tie.Need-returns-5
 unfolding refusalOf refusedUnless orElse
@@ -41,13 +40,10 @@ head-refusal-spec =
     tie.close
     (tie.spec
     returns
-    (λ c κs. search needs)
     (λ c κs. tt)
-    (λ c. search needs)
-    (λ c. search needs)
-    (λ c. search needs)
     (λ c κs. tt)
-    (λ c κs. search needs)
+    (λ c κs. tt)
+    (λ c κs. tt)
     returns-2
     returns-3
     returns-4

@@ -8,7 +8,7 @@ returns : tie.Need-returns
 returns c = writes-passed (c .before .before .before .before .before .before .tables-refusal .ensures) (c .before .before .before .before .enum-told .given .1) (c .before .before .fit .ensures)
 
 returns-2 : tie.Need-returns-2
-returns-2 c = writes-refused (c .before .before .before .tables-refusal .ensures) _ (c .before .verdict .given .1)
+returns-2 c = writes-refused (c .before .before .before .tables-refusal .ensures) _ (c .before .f .given .1)
 
 pub write-spec : {M : Type 1} → statement M
 write-spec =

@@ -1,33 +1,54 @@
--- `residual::emit::finish_file` meets its contract: each branch knows whether the output is long enough. Assumes nothing.
+-- `residual::emit::finish_file` meets its contract: each branch knows whether the output is long enough, and head, inputs and nodes are put
+-- one behind the other. Assumes nothing.
 use borrow.Author.Needs.{needs}
+use Prim.Native.Nat.{_≤_}
 use native.Mathlib.Omega.{arith}
-use Rattle.script.specs.File.{fileLength, nodeOffset}
+use lib.ListN.{length}
+use Rattle.script.specs.File.{nodeOffset, fileLength}
 use Rattle.file.specs.Written.{inputRow}
 use Rattle.residual.specs.Cells.{codeAt}
-use Rattle.residual.proofs.Finishing.{fits-small, finish-written, finish-short}
+use Rattle.residual.proofs.Finishing.{fits-small, top-low, finish-written, finish-short, put-written, nodes-room}
 use Rattle.residual.proofs.emit.finish_file.Statement.{statement}
 use Rattle.residual.proofs.emit.finish_file.Tie as tie
 
 returns : tie.Need-returns
-unfolding fileLength nodeOffset
 returns c =
-    let s = c .before .before .before .before .before in
-    let a = s .args in
-    λ x k i. finish-short x (inputRow (a .inputs .now)) (a .count) i (codeAt (a .codes .now) (a .p)) (s .pre .0) k (s .pre .1) (omega (arith, c .if1 .taken, c .before .file-size .ensures))
+    let a = c .before .before .before .before .before .args in
+    let p = c .before .before .before .before .before .pre in
+    λ x k i. finish-short x (inputRow (a .inputs .now)) (a .count) i (codeAt (a .codes .now) (a .p)) (p .0) k (p .1) (omega (arith, c .if1 .taken, c .before .file-size .ensures))
 
-write-code-requires : tie.Need-write-code-requires
-unfolding fileLength nodeOffset
-write-code-requires c κs =
-    let s = c .before .before .before .before .before .before in
-    let p = s .pre in
-    ((omega (arith, p .0), fits-small (codeAt (s .args .codes .now) (s .args .p)) (p .0) (p .1)), omega (arith, c .before .if1 .left, c .before .before .file-size .ensures))
+emit-root-requires : tie.Need-emit-root-requires
+unfolding nodeOffset
+emit-root-requires c κs =
+    let a = c .before .before .before .before .before .before .before .before .before .before .before .before .before .before .before .args in
+    let p = c .before .before .before .before .before .before .before .before .before .before .before .before .before .before .before .pre in
+    let d = codeAt (a .codes .now) (a .p) in
+    (omega (arith, c .before .before .before .before .before .before .before .before .before .before .before .before .before .before .before .fits .count, c .node-offset .ensures), top-low d (p .0) (fits-small d (p .0) (p .1)))
 
 returns-2 : tie.Need-returns-2
-unfolding fileLength nodeOffset
 returns-2 c =
-    let s = c .before .before .before .before .before .before .before .before .before in
-    let a = s .args in
-    λ x k f. finish-written x (inputRow (a .inputs .now)) (a .count) f (codeAt (a .codes .now) (a .p)) (s .pre .0) k (s .pre .1) (omega (arith, c .before .before .before .before .if1 .left, c .before .before .before .before .before .file-size .ensures)) (c .before .before .write-code .ensures x f)
+    let a = c .before .before .before .before .before .before .before .before .before .before .before .before .before .before .before .before .before .before .args in
+    let p = c .before .before .before .before .before .before .before .before .before .before .before .before .before .before .before .before .before .before .pre in
+    let d = codeAt (a .codes .now) (a .p) in
+    let g = inputRow (a .inputs .now) in
+    let h = c .before .before .before .before .before .before .before .before .before .before .before .head-at .ensures in
+    let i = c .before .before .before .before .before .before .before .inputs-at .ensures in
+    let b = c .before .before .before .node-offset .ensures in
+    let n = c .before .before .emit-root .ensures in
+    λ x k f.
+    let room : fileLength 0 (a .count) (a .nodes) ≤ length (a .out .now) = omega (arith, c .before .before .before .before .before .before .before .before .before .before .before .before .before .if1 .left, c .before .before .before .before .before .before .before .before .before .before .before .before .before .before .file-size .ensures) in
+    finish-written x g (a .count) f d (p .0) k (p .1) room
+    (put-written x g (a .count) f d (p .0) h i b (n .put (nodes-room x g (a .count) f d (p .0) room h i b (n .number))))
 
 pub finish-file-spec : {M : Type 1} → statement M
-finish-file-spec = tie.close (tie.spec (λ c κs. search needs) returns write-code-requires (λ c. search needs) returns-2)
+finish-file-spec =
+    tie.close
+    (tie.spec
+    (λ c κs. tt)
+    returns
+    (λ c κs. tt)
+    (λ c κs. tt)
+    (λ c κs. tt)
+    emit-root-requires
+    (λ c. search needs)
+    returns-2)

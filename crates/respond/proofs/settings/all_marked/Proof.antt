@@ -3,7 +3,7 @@ use Prim.Native.Nat.{_-_}
 use mathlib.Core.Path.{sym, ap, _∙_}
 use native.Mathlib.Omega.{arith}
 use Rattle.script.specs.Refusals.{isNone}
-use Rattle.file.proofs.Searching.{Searching, search-begins, search-goes-on, search-finds, search-ends}
+use Rattle.script.proofs.Searching.{Searching, search-begins, search-goes-on, search-finds, search-ends}
 use Rattle.respond.specs.Response.{programSettings, settingMarked}
 use Rattle.lambdamix.specs.Limits.{maxInputs}
 use Rattle.respond.proofs.settings.all_marked.Statement.{statement}
@@ -18,12 +18,9 @@ abbrev μ-loop : tie.MeasureT-loop
 loop-holds : tie.Need-loop-holds Inv-loop μ-loop
 loop-holds c = search-begins _ _
 
-mul-is-marked : tie.Need-mul-is-marked Inv-loop μ-loop
+mul-marked : tie.Need-mul-marked Inv-loop μ-loop
 unfolding programSettings maxInputs
-mul-is-marked c = omega arith
-
-is-marked-requires : tie.Need-is-marked-requires Inv-loop μ-loop
-is-marked-requires c κs = omega arith
+mul-marked c = omega arith
 
 add-j : tie.Need-add-j Inv-loop μ-loop
 add-j c = omega arith
@@ -33,11 +30,11 @@ loop-less c = omega arith
 
 loop-again : tie.Need-loop-again Inv-loop μ-loop
 unfolding settingMarked
-loop-again c = search-goes-on _ (c .before .before .before .loop .inv) (c .before .before .loop-test .taken) (sym (c .before .is-marked .ensures) ∙ c .if1 .taken)
+loop-again c = search-goes-on _ (c .before .before .before .loop .inv) (c .before .before .loop-test .taken) (sym (c .before .marked .ensures) ∙ c .if1 .taken)
 
 returns : tie.Need-returns Inv-loop μ-loop
 unfolding isNone settingMarked
-returns c = ap isNone (search-finds _ (c .before .before .before .loop .inv) (c .before .before .loop-test .taken) (sym (c .before .is-marked .ensures) ∙ c .if1 .left))
+returns c = ap isNone (search-finds _ (c .before .before .before .loop .inv) (c .before .before .loop-test .taken) (sym (c .before .marked .ensures) ∙ c .if1 .left))
 
 returns-2 : tie.Need-returns-2 Inv-loop μ-loop
 unfolding isNone
@@ -50,8 +47,8 @@ all-marked-spec =
     Inv-loop
     μ-loop
     loop-holds
-    mul-is-marked
-    is-marked-requires
+    mul-marked
+    (λ c κs. tt)
     add-j
     loop-less
     loop-again

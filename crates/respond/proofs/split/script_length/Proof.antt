@@ -1,10 +1,9 @@
 -- `respond::split::script_length` meets its contract: three tests of the head. Assumes nothing.
 use mathlib.Core.Path.{refl, sym, _∙_}
 use borrow.Author.Tests.{le-leb, lt-leb}
-use Rattle.script.specs.File.{fileLength, nodeOffset}
+use Rattle.file.proofs.HeadLaws.{counts-told, length-told}
 use Rattle.respond.specs.Response.{scriptLengthBy}
-use Rattle.respond.proofs.Splitting.{length-by, head-length, head-counts}
-use borrow.Author.Needs.{needs}
+use Rattle.respond.proofs.Splitting.{length-by}
 use Rattle.respond.proofs.split.script_length.Statement.{statement}
 use Rattle.respond.proofs.split.script_length.Tie as tie
 
@@ -13,36 +12,31 @@ unfolding scriptLengthBy
 returns c = length-by _ (lt-leb _ _ (c .if1 .taken)) refl refl
 
 returns-2 : tie.Need-returns-2
-unfolding scriptLengthBy fileLength nodeOffset
-returns-2 c = head-length _ (c .before .before .before .before .word16 .ensures) (c .before .before .before .word162 .ensures) (c .before .before .word163 .ensures) ∙ length-by _ (le-leb _ _ (c .before .before .before .before .before .before .before .if1 .left)) (sym (c .before .before .before .before .before .before .is-marked .ensures) ∙ c .before .before .before .before .before .if2 .taken) (head-counts _ (c .before .before .before .before .word16 .ensures) (c .before .before .before .word162 .ensures) (c .before .before .word163 .ensures) (c .before .counts-right .ensures) (c .if3 .taken))
+unfolding scriptLengthBy
+returns-2 c =
+    length-told _ (c .before .before .before .head-counts .ensures) (c .file-size .ensures)
+    ∙ length-by _ (le-leb _ _ (c .before .before .before .before .before .before .if1 .left)) (sym (c .before .before .before .before .before .marked .ensures) ∙ c .before .before .before .before .if2 .taken)
+    (counts-told _ (c .before .before .before .head-counts .ensures) (c .before .before .counts-right .ensures) (c .before .if3 .taken))
 
 returns-3 : tie.Need-returns-3
 unfolding scriptLengthBy
-returns-3 c = length-by _ (le-leb _ _ (c .before .before .before .before .before .before .before .if1 .left)) (sym (c .before .before .before .before .before .before .is-marked .ensures) ∙ c .before .before .before .before .before .if2 .taken) (head-counts _ (c .before .before .before .before .word16 .ensures) (c .before .before .before .word162 .ensures) (c .before .before .word163 .ensures) (c .before .counts-right .ensures) (c .if3 .left))
+returns-3 c =
+    length-by _ (le-leb _ _ (c .before .before .before .before .before .if1 .left)) (sym (c .before .before .before .before .marked .ensures) ∙ c .before .before .before .if2 .taken)
+    (counts-told _ (c .before .before .head-counts .ensures) (c .before .counts-right .ensures) (c .if3 .left))
 
 returns-4 : tie.Need-returns-4
 unfolding scriptLengthBy
-returns-4 c = length-by _ (le-leb _ _ (c .before .before .if1 .left)) (sym (c .before .is-marked .ensures) ∙ c .if2 .left) refl
+returns-4 c = length-by _ (le-leb _ _ (c .before .before .if1 .left)) (sym (c .before .marked .ensures) ∙ c .if2 .left) refl
 
 pub script-length-spec : {M : Type 1} → statement M
 script-length-spec =
     tie.close
     (tie.spec
     returns
-    (λ c κs. search needs)
-    (λ c κs. search needs)
-    (λ c. search needs)
-    (λ c κs. search needs)
-    (λ c. search needs)
-    (λ c κs. search needs)
-    (λ c. search needs)
-    (λ c κs. search needs)
-    (λ c. search needs)
-    (λ c. search needs)
-    (λ c. search needs)
-    (λ c. search needs)
-    (λ c. search needs)
-    (λ c. search needs)
+    (λ c κs. tt)
+    (λ c κs. tt)
+    (λ c κs. tt)
+    (λ c κs. tt)
     returns-2
     returns-3
     returns-4)

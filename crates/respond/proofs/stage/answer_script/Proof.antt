@@ -1,30 +1,41 @@
--- `respond::stage::answer_script` meets its contract: by the maker's reply. Assumes nothing.
+-- `respond::stage::answer_script` meets its contract: by the reader's answer and the maker's reply. Assumes nothing.
+use mathlib.Core.Path.{refl, sym}
 use native.Mathlib.Omega.{arith}
 use Rattle.respond.specs.Response.{maxBytes}
 use Rattle.respond.proofs.Answering.{answered-unmade, answered-made}
-use borrow.Author.Needs.{needs}
+use Rattle.respond.proofs.Responding.{answered-read, answered-refused}
 use Rattle.respond.proofs.stage.answer_script.Statement.{statement}
 use Rattle.respond.proofs.stage.answer_script.Tie as tie
 
 returns : tie.Need-returns
-unfolding maxBytes
-returns c = answered-unmade _ (c .before .before .before .before .before .before .before .before .make-given .ensures) (omega arith) (c .before .before .before .before .before .reply .given .1) (c .before .before .print-unmade .ensures)
+returns c = answered-refused (c .before .before .before .before .before .told .given .1) (c .before .before .print-unmade .ensures)
 
 returns-2 : tie.Need-returns-2
-returns-2 c = answered-made _ (c .before .before .before .before .before .before .before .before .before .make-given .ensures) (c .before .before .before .before .before .before .reply2 .given .1) (c .before .before .print-made .ensures)
+unfolding maxBytes
+returns-2 c =
+    answered-read (c .before .before .before .before .before .before .before .before .before .before .before .told2 .given .1) (answered-unmade _ (c .before .before .before .before .before .before .before .before .make-given .ensures) (omega arith) (c .before .before .before .before .before .reply .given .1) (c .before .before .print-unmade2 .ensures))
+
+returns-3 : tie.Need-returns-3
+returns-3 c =
+    answered-read (c .before .before .before .before .before .before .before .before .before .before .before .before .told2 .given .1) (answered-made _ (c .before .before .before .before .before .before .before .before .before .make-given .ensures) (c .before .before .before .before .before .before .reply2 .given .1) (c .before .before .print-made .ensures))
 
 pub answer-script-spec : {M : Type 1} → statement M
 answer-script-spec =
     tie.close
     (tie.spec
-    (λ c. search needs)
-    (λ c κs. search needs)
-    (λ c. search needs)
-    (λ c κs. search needs)
-    (λ c. search needs)
-    (λ c. search needs)
-    (λ c κs. search needs)
-    (λ c. search needs)
+    (λ c. c .match .keys1)
+    (λ c κs. tt)
+    (λ c. c .match .keys2)
+    (λ c. refl)
+    (λ c κs. tt)
+    (λ c. c .match2 .keys1)
+    (λ c κs. tt)
+    (λ c. c .match2 .keys2)
+    (λ c. sym (c .before .before .before .before .before .make-given .kept .1 .1 .1 .1 .1 .1 .1 .1 .1 .1 .0))
+    (λ c κs. tt)
+    (λ c. c .before .before .print-unmade .kept .0)
     returns
-    (λ c. search needs)
-    returns-2)
+    (λ c. c .before .before .print-unmade2 .kept .0)
+    returns-2
+    (λ c. c .before .before .print-made .kept .1 .1 .1 .1 .0)
+    returns-3)

@@ -1,45 +1,39 @@
 -- `respond::stage::list_file` meets its contract: by the reader's answer, on tables that are long enough. Assumes nothing.
-use mathlib.Core.Path.{refl}
+use mathlib.Core.Path.{refl, sym}
+use native.Mathlib.Omega.{arith}
 use Rattle.lambdamix.specs.Limits.{maxTypes, maxInputs, maxNodes}
+use Rattle.script.specs.Bytes.{byteAt}
 use Rattle.script.specs.Tables.{longEnough}
-use Rattle.respond.proofs.Holding.{file-listed, file-never}
-use borrow.Author.Needs.{needs}
+use Rattle.respond.proofs.Holding.{file-listed}
 use Rattle.respond.proofs.stage.list_file.Statement.{statement}
 use Rattle.respond.proofs.stage.list_file.Tie as tie
 
 returns : tie.Need-returns
-unfolding longEnough maxTypes maxInputs maxNodes
-returns c = file-never refl (c .before .before .before .before .before .before .before .before .before .before .read .ensures) (c .enum-told .given .1)
-
-returns-2 : tie.Need-returns-2
-unfolding longEnough maxTypes maxInputs maxNodes
-returns-2 c = file-listed refl (c .before .before .before .before .before .before .before .before .before .before .before .before .before .before .before .before .before .before .before .before .before .before .before .read .ensures) (c .before .before .before .before .before .before .before .before .before .before .before .before .before .before .before .before .before .before .before .before .before .before .before .before .before .before .before .before .before .before .before .before .known .ensures) (c .before .before .before .before .before .before .before .before .before .before .before .before .before .n .given .1) (c .before .before .list-at .ensures)
+unfolding byteAt longEnough maxTypes maxInputs maxNodes
+returns c =
+    file-listed refl (c .before .before .before .before .before .before .before .before .before .before .before .before .before .before .before .before .before .before .before .before .read .ensures) (record { below = λ i. omega (arith, c .before .before .before .before .before .before .before .before .before .before .before .before .before .before .before .before .before .before .before .before .before .before .before .before .before .before .before .before .before .before .shared-slice-known .given i) }) (c .before .before .list-at .ensures)
 
 pub list-file-spec : {M : Type 1} → statement M
 list-file-spec =
     tie.close
     (tie.spec
-    (λ c κs. search needs)
-    (λ c. search needs)
-    (λ c. search needs)
-    (λ c. search needs)
-    (λ c. search needs)
-    (λ c. search needs)
-    (λ c. search needs)
-    (λ c. search needs)
-    (λ c. search needs)
-    (λ c κs. search needs)
-    (λ c. search needs)
-    (λ c. search needs)
-    (λ c. search needs)
-    (λ c. search needs)
-    (λ c. search needs)
-    (λ c. search needs)
-    (λ c. search needs)
-    (λ c. search needs)
-    (λ c. search needs)
-    (λ c. search needs)
-    (λ c κs. search needs)
-    returns
-    (λ c. search needs)
-    returns-2)
+    (λ c. refl)
+    (λ c. refl)
+    (λ c. refl)
+    (λ c. refl)
+    (λ c. refl)
+    (λ c. refl)
+    (λ c. refl)
+    (λ c. refl)
+    (λ c κs. tt)
+    (λ c. sym (c .before .before .before .before .before .before .before .before .before .read .kept .1 .0))
+    (λ c. sym (c .before .before .before .before .before .before .before .before .before .before .read .kept .1 .1 .0))
+    (λ c. sym (c .before .before .before .before .before .before .before .before .before .before .before .read .kept .1 .1 .1 .0))
+    (λ c. sym (c .before .before .before .before .before .before .before .before .before .before .before .before .read .kept .1 .1 .1 .1 .0))
+    (λ c. sym (c .before .before .before .before .before .before .before .before .before .before .before .before .before .read .kept .1 .1 .1 .1 .1 .0))
+    (λ c. sym (c .before .before .before .before .before .before .before .before .before .before .before .before .before .before .read .kept .1 .1 .1 .1 .1 .1 .0))
+    (λ c. sym (c .before .before .before .before .before .before .before .before .before .before .before .before .before .before .before .read .kept .1 .1 .1 .1 .1 .1 .1 .0))
+    (λ c. sym (c .before .before .before .before .before .before .before .before .before .before .before .before .before .before .before .before .read .kept .1 .1 .1 .1 .1 .1 .1 .1 .0))
+    (λ c κs. tt)
+    (λ c. c .before .before .list-at .kept .1 .1 .1 .1 .1 .1 .1 .1 .1 .0)
+    returns)

@@ -4,7 +4,7 @@ use mathlib.Core.Path.{_∙_}
 use native.Mathlib.Omega.{arith}
 use Rattle.lambdamix.specs.Limits.{maxNodes}
 use Rattle.script.specs.Walks.{usedOnceAt}
-use Rattle.script.proofs.FirstFailing.{first-same}
+use Rattle.script.proofs.Searching.{first-same}
 use Rattle.script.proofs.UseCounts.{counted-once}
 use Rattle.script.proofs.structure.first_misused.Statement.{statement}
 use Rattle.script.proofs.structure.first_misused.Tie as tie

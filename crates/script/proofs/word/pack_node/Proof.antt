@@ -1,7 +1,6 @@
 -- `script::word::pack_node` meets its contract: a constant is its bits, any other node its kind over its fields. Assumes nothing.
 use borrow.Author.Needs.{needs}
 use mathlib.Core.Path.{ap, _∙_}
-use native.Mathlib.Omega.{arith}
 use mir.Facts.{toZ-ofZ}
 use Rattle.script.specs.Bytes.{bits32}
 use Rattle.script.proofs.WordLaws.{holds-constant, holds-step}

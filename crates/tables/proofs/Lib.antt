@@ -1,0 +1,3 @@
+pub mod ContentLaws
+pub mod ScriptLaws
+pub mod ReachedOnce

@@ -1,0 +1,41 @@
+-- `tables::content::first_bad_input` meets its contract: the loop searches. Assumes nothing.
+use Prim.Native.Nat.{_-_}
+use mathlib.Core.Path.{sym, _∙_}
+use native.Mathlib.Omega.{arith}
+use Rattle.script.specs.Columns.{inputsIn}
+use Rattle.script.specs.Refusals.{inputFits}
+use Rattle.script.specs.Replies.{foundAt}
+use Rattle.script.proofs.Searching.{Searching, search-begins, search-goes-on, search-finds, search-ends}
+use Rattle.tables.proofs.content.first_bad_input.Statement.{statement}
+use Rattle.tables.proofs.content.first_bad_input.Tie as tie
+
+abbrev Inv-loop : tie.InvT-loop
+Inv-loop inputs input-types count j₀ j = Searching (inputFits (inputsIn input-types)) j inputs
+
+abbrev μ-loop : tie.MeasureT-loop
+μ-loop inputs input-types count j₀ j = inputs - j
+
+loop-again : tie.Need-loop-again Inv-loop μ-loop
+loop-again c = search-goes-on _ (c .before .before .before .loop .inv) (c .before .before .loop-test .taken) (sym (c .before .input-right .ensures) ∙ c .if1 .taken)
+
+returns : tie.Need-returns Inv-loop μ-loop
+unfolding foundAt
+returns c = search-finds _ (c .before .before .before .loop .inv) (c .before .before .loop-test .taken) (sym (c .before .input-right .ensures) ∙ c .if1 .left)
+
+returns-2 : tie.Need-returns-2 Inv-loop μ-loop
+unfolding foundAt
+returns-2 c = search-ends _ (c .before .loop .inv) (c .loop-test .left)
+
+pub first-bad-input-spec : {M : Type 1} → statement M
+first-bad-input-spec =
+    tie.close
+    (tie.spec
+    Inv-loop
+    μ-loop
+    (λ c. search-begins _ _)
+    (λ c κs. tt)
+    (λ c. omega arith)
+    (λ c. omega arith)
+    loop-again
+    returns
+    returns-2)
