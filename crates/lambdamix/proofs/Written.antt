@@ -10,7 +10,7 @@ use native.Mathlib.Omega.{arith}
 use lib.IntN.{ℤ}
 use lib.ListN.{length, getD}
 use lib.Dec.{leb, eqb}
-use borrow.Author.Tests.{eq-eqb, ne-eqb}
+use borrow.Author.Tests.{leb-true, le-leb, eq-eqb, ne-eqb}
 use Rattle.lambdamix.specs.Limits.{maxNodes, maxHeight}
 use Rattle.lambdamix.specs.Script.{Script, inputCount, root}
 use Rattle.lambdamix.specs.Term.{Former, arity, tree}
@@ -116,6 +116,6 @@ pub written-accepted :
 unfolding structureRefusal orElse fits
 written-accepted {c} s d f =
     let w = closed-formed d in
-    let low = and-both (leb (size c) maxNodes) (leb (codeHeight c) maxHeight) f .1 in
+    let low = and-both (leb (size c) maxNodes) _ f .1 in
     let r = written-dynamic s d in
-    (rw (written-uses s w, written-height s w low, typed-scope (written s c) r), r)
+    (rw (written-uses s w, written-height s w (le-leb (codeHeight c) maxHeight (omega (arith, leb-true, low))), typed-scope (written s c) r), r)

@@ -2,11 +2,10 @@
 use Prim.Native.Nat.{ℕ, _+_, _-_, _≤_, _<_, min}
 use mathlib.Core.Path.{_≡_}
 use mathlib.Core.Bool.{Bool, true, false}
-use mathlib.Core.List.{List, [], _∷_, _++_, append-assoc}
+use mathlib.Core.List.{List, _++_, append-assoc}
 use mathlib.Core.Option.{none}
 use native.Mathlib.Omega.{arith}
 use lib.ListN.{length, take, drop, length-append, length-take, length-drop}
-use lib.Dec.{ltb}
 use borrow.Author.Tests.{le-leb}
 use Rattle.lambdamix.specs.Structure.{orElse, refusedUnless}
 use Rattle.lambdamix.specs.Text.{ascii, digits}
@@ -20,17 +19,24 @@ use Rattle.printer.specs.Answers.{tablesText, roomRefusal, listRefusal, listed,
 use Rattle.printer.proofs.Digits.{digits-within}
 use Rattle.printer.proofs.Writing.{placed, join}
 use Rattle.respond.specs.Response.{maxBytes, unmadeText}
-use Rattle.respond.specs.Stages.{linesBytes, Prints, opening, countsText, CountsPlaced, ListsAt}
+use Rattle.respond.specs.Stages.{linesBytes, Prints, pairText, opening, countsText, CountsPlaced, ListsAt}
 
 regroup : (a b c d e : List ℕ) → (((a ++ b) ++ c) ++ d) ++ e ≡ a ++ (b ++ (c ++ (d ++ e)))
 regroup a b c d e = simp append-assoc
 
+pub pair-placed :
+    (k n : ℕ) {v w x x₁ x₂ x₃ x₄ y : List ℕ} {a b c d r : ℕ} →
+    Placed v 0 x x₁ a → Placed (digits k) a x₁ x₂ b → Placed w b x₂ x₃ c → Placed (digits n) c x₃ x₄ d →
+    Placed (ascii "\n") d x₄ y r → Placed (pairText v k w n) 0 x y r
+unfolding pairText
+pair-placed k n one two three four five = join (join (join (join one two) three) four) five
+
 -- ---- number and place
 
-unmade-text : (b : Bool) (n p : ℕ) → (((opening b ++ digits n) ++ (32 ∷ [])) ++ digits p) ++ (10 ∷ []) ≡ unmadeText b n p
-unfolding opening unmadeText ascii
-unmade-text true n p = regroup (ascii "refused ") (digits n) (32 ∷ []) (digits p) (10 ∷ [])
-unmade-text false n p = regroup (ascii "accepted\nstopped ") (digits n) (32 ∷ []) (digits p) (10 ∷ [])
+unmade-text : (b : Bool) (n p : ℕ) → pairText (opening b) n (ascii " ") p ≡ unmadeText b n p
+unfolding pairText opening unmadeText
+unmade-text true n p = regroup (ascii "refused ") (digits n) (ascii " ") (digits p) (ascii "\n")
+unmade-text false n p = regroup (ascii "accepted\nstopped ") (digits n) (ascii " ") (digits p) (ascii "\n")
 
 opening-short : (b : Bool) → length (opening b) ≤ 17
 unfolding opening ascii
@@ -38,21 +44,16 @@ opening-short true = omega arith
 opening-short false = omega arith
 
 unmade-short : (b : Bool) (n p : ℕ) → n < 256 → p < 18446744073709551616 → length (unmadeText b n p) ≤ maxBytes
-unfolding maxBytes
+unfolding maxBytes pairText ascii
 unmade-short b n p h k =
     rw (← unmade-text b n p)
     (simp length-append
     (omega (arith, opening-short b, digits-within 19 n (omega arith), digits-within 19 p (omega arith))))
 
 pub prints-unmade :
-    (n p : ℕ) → n < 256 → p < 18446744073709551616 → {x x₁ x₂ x₃ x₄ y : List ℕ} {a b c d r : ℕ} →
-    Placed (opening (ltb n 20)) 0 x x₁ a → Placed (digits n) a x₁ x₂ b → Placed (32 ∷ []) b x₂ x₃ c →
-    Placed (digits p) c x₃ x₄ d → Placed (10 ∷ []) d x₄ y r → Prints (unmadeText (ltb n 20) n p) x y r
-prints-unmade n p h k one two three four five =
-    record {
-      short = unmade-short (ltb n 20) n p h k;
-      placed = rw (unmade-text (ltb n 20) n p) at (join (join (join (join one two) three) four) five);
-    }
+    (b : Bool) (n p : ℕ) → n < 256 → p < 18446744073709551616 → {x y : List ℕ} {r : ℕ} →
+    Placed (pairText (opening b) n (ascii " ") p) 0 x y r → Prints (unmadeText b n p) x y r
+prints-unmade b n p h k l = record { short = unmade-short b n p h k; placed = rw (unmade-text b n p) at l }
 
 -- ---- steps and nodes
 
@@ -62,12 +63,10 @@ counts-short k n h l =
     simp length-append (omega (arith, digits-within 4 k (omega arith), digits-within 4 n (omega arith)))
 
 pub counts-placed :
-    (k n : ℕ) → k < 65536 → n < 65536 → {x x₁ x₂ x₃ x₄ y : List ℕ} {a b c d r : ℕ} →
-    Placed (ascii "accepted\nsteps ") 0 x x₁ a → Placed (digits k) a x₁ x₂ b → Placed (ascii "\nnodes ") b x₂ x₃ c →
-    Placed (digits n) c x₃ x₄ d → Placed (ascii "\n") d x₄ y r → CountsPlaced k n x y r
-unfolding countsText
-counts-placed k n h l one two three four five =
-    record { short = counts-short k n h l; placed = join (join (join (join one two) three) four) five }
+    (k n : ℕ) → k < 65536 → n < 65536 → {x y : List ℕ} {r : ℕ} →
+    Placed (pairText (ascii "accepted\nsteps ") k (ascii "\nnodes ") n) 0 x y r → CountsPlaced k n x y r
+unfolding countsText pairText
+counts-placed k n h l p = record { short = counts-short k n h l; placed = p }
 
 -- ---- a listing behind them
 

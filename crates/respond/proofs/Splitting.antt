@@ -1,5 +1,5 @@
 -- Where the script ends, and how many settings are given, by the tests of the code. Assumes nothing.
-use Prim.Native.Nat.{ℕ, _+_, _-_, _*_, _/_, _%_, _≤_, min}
+use Prim.Native.Nat.{ℕ, _-_, _/_, _%_, _≤_, min}
 use mathlib.Core.Path.{_≡_, refl, sym, ap, _∙_}
 use mathlib.Core.Bool.{Bool, true, false, _&&_}
 use mathlib.Core.List.{List}
@@ -11,8 +11,7 @@ use lib.Dec.{leb, ltb, eqb}
 use borrow.Author.Tests.{ltb-true, leb-true, leb-false}
 use Rattle.lambdamix.specs.Structure.{firstFailing}
 use Rattle.script.specs.declared.Counts.{Counts}
-use Rattle.script.specs.Bytes.{word16}
-use Rattle.script.specs.File.{numbered, fileLength, nodeOffset, headTypes, headInputs, headNodes}
+use Rattle.script.specs.File.{numbered, headTypes, headInputs, headNodes}
 use Rattle.script.specs.Refusals.{headMarked, countsRight, isNone}
 use Rattle.script.specs.Tables.{Tables, over}
 use Rattle.script.proofs.Numbered.{length-numbered}

@@ -32,6 +32,10 @@ pub record Prints (text before after : List ℕ) (r : ℕ) : Type 0 where
   pub short : length text ≤ maxBytes
   pub placed : Placed text 0 before after r
 
+-- two numbers, each behind its words
+unfoldable pub pairText : List ℕ → ℕ → List ℕ → ℕ → List ℕ
+pairText a x b y = a ++ digits x ++ b ++ digits y ++ ascii "\n"
+
 -- the words before number and place
 unfoldable pub opening : Bool → List ℕ
 opening true = ascii "refused "

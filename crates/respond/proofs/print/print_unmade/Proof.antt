@@ -1,21 +1,35 @@
--- `respond::print::print_unmade` meets its contract: five parts, one behind the other. Assumes nothing.
+-- `respond::print::print_unmade` meets its contract: the words go by the number. Assumes nothing.
+use mathlib.Core.Bool.{true, false}
 use native.Mathlib.Omega.{arith}
+use borrow.Author.Tests.{lt-ltb, le-ltb}
+use Rattle.lambdamix.specs.Text.{ascii}
+use Rattle.respond.specs.Stages.{opening}
 use Rattle.respond.proofs.Lines.{prints-unmade}
 use borrow.Author.Needs.{needs}
 use Rattle.respond.proofs.print.print_unmade.Statement.{statement}
 use Rattle.respond.proofs.print.print_unmade.Tie as tie
 
 returns : tie.Need-returns
-returns c = prints-unmade _ _ (omega (arith, c .before .before .before .before .before .before .before .before .before .before .before .before .before .before .before .before .before .before .before .before .before .fits .number)) (omega (arith, c .before .before .before .before .before .before .before .before .before .before .before .before .before .before .before .before .before .before .before .before .before .fits .place)) (c .before .before .before .before .before .before .before .before .before .before .before .before .before .before .before .before .before .before .opening-at .ensures) (c .before .before .before .before .before .before .before .before .before .before .before .before .before .before .part-at .ensures) (c .before .before .before .before .before .before .before .before .before .before .part-at2 .ensures) (c .before .before .before .before .before .before .part-at3 .ensures) (c .before .before .part-at4 .ensures)
+unfolding opening ascii
+returns c =
+    rw (lt-ltb (c .before .before .before .before .before .before .before .before .args .number) 20 (omega (arith, c .before .before .before .before .before .before .if1 .taken))) (prints-unmade true _ _ (omega (arith, c .before .before .before .before .before .before .before .before .fits .number)) (omega (arith, c .before .before .before .before .before .before .before .before .fits .place)) (c .before .before .print-pair .ensures))
+
+returns-2 : tie.Need-returns-2
+unfolding opening ascii
+returns-2 c =
+    rw (le-ltb (c .before .before .before .before .before .before .before .before .args .number) 20 (omega (arith, c .before .before .before .before .before .before .if1 .left))) (prints-unmade false _ _ (omega (arith, c .before .before .before .before .before .before .before .before .fits .number)) (omega (arith, c .before .before .before .before .before .before .before .before .fits .place)) (c .before .before .print-pair2 .ensures))
 
 pub print-unmade-spec : {M : Type 1} → statement M
 print-unmade-spec =
     tie.close
     (tie.spec
-    (λ c κs. search needs)
-    (λ c κs. search needs)
-    (λ c κs. search needs)
-    (λ c κs. search needs)
-    (λ c κs. search needs)
     (λ c. search needs)
-    returns)
+    (λ c. search needs)
+    (λ c κs. tt)
+    (λ c. search needs)
+    returns
+    (λ c. search needs)
+    (λ c. search needs)
+    (λ c κs. tt)
+    (λ c. search needs)
+    returns-2)
