@@ -13,7 +13,7 @@ use Rattle.lambdamix.specs.Types.{typeOf, typeCount}
 use Rattle.lambdamix.specs.Typing.{Context, bind}
 use Rattle.lambdamix.specs.Checker.{check}
 use Rattle.script.specs.Words.{wordKind, wordA, wordB, wordC}
-use Rattle.script.proofs.TreeForms.{All}
+use Rattle.tables.proofs.TreeForms.{All}
 use Rattle.annotation.specs.Answers.{pick, typeAnswer, Stands}
 use Rattle.annotation.specs.Walks.{Lent, Pair, Binds, bound, Agree, Pushed, Answers, ChildAnswers, OneChild, lifts, fixes, fixes-dynamic, TwoChildren, applies, operates, applies-dynamic, operates-dynamic, ThreeChildren, chooses, chooses-dynamic, BindsName, abstracts, abstracts-dynamic, WordOf, Stand, none-left, and-then, Ruled, BinderRuled}
 use Rattle.script.proofs.Sound.{sound}

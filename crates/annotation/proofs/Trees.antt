@@ -17,7 +17,7 @@ use Rattle.lambdamix.proofs.Falling.{falling-step, below-at}
 use Rattle.lambdamix.proofs.Tests.{and-both}
 use Rattle.script.specs.Refusals.{fieldRight, fieldsRight, nodeFits}
 use Rattle.script.specs.Words.{wordKind, wordA, wordB, wordC, Holds}
-use Rattle.script.proofs.TreeForms.{All, high-row, heights-gathered}
+use Rattle.tables.proofs.TreeForms.{All, high-row, heights-gathered}
 use Rattle.annotation.specs.Walks.{Lent}
 use Rattle.script.proofs.Sound.{Sound}
 

@@ -4,11 +4,10 @@ use Prim.Native.Nat.{ℕ, _+_, _≤_, _<_}
 use mathlib.Core.Path.{_≡_}
 use mathlib.Core.List.{List, _∷_, _++_}
 use mathlib.Core.Option.{Option}
-use lib.IntN.{ℤ, pos}
-use lib.ListN.{length, getD}
+use lib.ListN.{length}
 use lib.Seq.{sets}
 use lib.Dec.{leb}
-use Rattle.lambdamix.specs.Script.{Script, FunctionType, Node}
+use Rattle.lambdamix.specs.Script.{Script}
 use Rattle.lambdamix.specs.Text.{ascii}
 use Rattle.lambdamix.specs.Checker.{Refusal}
 use Rattle.lambdamix.specs.Structure.{refusedUnless}
@@ -21,16 +20,6 @@ use Rattle.script.specs.Replies.{writing}
 -- the head for three counts
 unfoldable pub headRow : ℕ → ℕ → ℕ → List ℕ
 headRow t i n = ascii "HD" ++ (bytes16 t ++ (bytes16 i ++ bytes16 n))
-
-unfoldable pub typeRow : List ℕ → List ℕ → ℕ → FunctionType
-typeRow parameters results j = record { parameter = getD parameters j 0; result = getD results j 0 }
-
-unfoldable pub inputRow : List ℕ → ℕ → ℕ
-inputRow inputs j = getD inputs j 0
-
-unfoldable pub nodeRow : List ℕ → List ℕ → List ℕ → List ℕ → List ℤ → ℕ → Node
-nodeRow kinds a b c values j =
-    record { kind = getD kinds j 0; a = getD a j 0; b = getD b j 0; c = getD c j 0; value = getD values j (pos 0) }
 
 -- a node's record for its kind, its fields and its value's bits
 unfoldable pub nodeParts : ℕ → ℕ → ℕ → ℕ → ℕ → List ℕ

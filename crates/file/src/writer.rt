@@ -10,11 +10,12 @@ use tables::refusal::tables_refusal;
 ghost use Prim.Native.Nat.{_+_, _*_, _≤_};
 ghost use lib.ListN.{length};
 ghost use mathlib.Core.List.{[], _∷_};
+ghost use Rattle.script.specs.Columns.{inputsIn, nodesIn, typesIn};
 ghost use Rattle.script.specs.Bytes.{bytes16, bytes32};
 ghost use Rattle.script.specs.File.{typeBytes, inputBytes, nodeBytes, records, numbered, fileBytes, fileLength};
 ghost use Rattle.script.specs.Tables.{tablesScript};
 ghost use Rattle.script.specs.Replies.{Writes};
-ghost use Rattle.file.specs.Written.{Put, PutWhole, Fitted, headRow, typeRow, inputRow, nodeRow, nodeParts};
+ghost use Rattle.file.specs.Written.{Put, PutWhole, Fitted, headRow, nodeParts};
 
 // Two bytes at a place.
 fn pair_at(out: &mut [u8], at: usize, first: u8, second: u8)
@@ -110,7 +111,7 @@ pub fn node_at(out: &mut [u8], at: u32, kind: u8, a: u16, b: u16, c: u16, value:
 
 // All records of a kind, one after the other, where the counts place them.
 fn types_at(out: &mut [u8], n: Counts, parameters: &[u16], results: &[u16])
-    ensures { λ r. ⌜ Put (now (out .entry)) 8 (records typeBytes (numbered (typeRow (now (parameters .entry)) (now (results .entry))) 0 (n .types))) (now (out .exit)) ⌝ }
+    ensures { λ r. ⌜ Put (now (out .entry)) 8 (records typeBytes (numbered (typesIn (now (parameters .entry)) (now (results .entry))) 0 (n .types))) (now (out .exit)) ⌝ }
 {
     let count = n.types as usize;
     let mut j: usize = 0;
@@ -123,7 +124,7 @@ fn types_at(out: &mut [u8], n: Counts, parameters: &[u16], results: &[u16])
 }
 
 pub fn inputs_at(out: &mut [u8], n: Counts, inputs: &[u16])
-    ensures { λ r. ⌜ Put (now (out .entry)) (8 + 6 * n .types) (records inputBytes (numbered (inputRow (now (inputs .entry))) 0 (n .inputs))) (now (out .exit)) ⌝ }
+    ensures { λ r. ⌜ Put (now (out .entry)) (8 + 6 * n .types) (records inputBytes (numbered (inputsIn (now (inputs .entry))) 0 (n .inputs))) (now (out .exit)) ⌝ }
 {
     let first = 8 + 6 * (n.types as usize);
     let count = n.inputs as usize;
@@ -145,7 +146,7 @@ fn nodes_at(
     values: &[i32],
 )
     requires { ⌜ fileLength (n .types) (n .inputs) (n .nodes) ≤ length (now out) ⌝ }
-    ensures { λ r. ⌜ Put (now (out .entry)) (8 + 6 * n .types + 4 * n .inputs) (records nodeBytes (numbered (nodeRow (now (kinds .entry)) (now (a .entry)) (now (b .entry)) (now (c .entry)) (now (values .entry))) 0 (n .nodes))) (now (out .exit)) ⌝ }
+    ensures { λ r. ⌜ Put (now (out .entry)) (8 + 6 * n .types + 4 * n .inputs) (records nodeBytes (numbered (nodesIn (now (kinds .entry)) (now (a .entry)) (now (b .entry)) (now (c .entry)) (now (values .entry))) 0 (n .nodes))) (now (out .exit)) ⌝ }
 {
     let first = 8 + 6 * (n.types as usize) + 4 * (n.inputs as usize);
     let count = n.nodes as usize;

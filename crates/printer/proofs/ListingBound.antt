@@ -22,7 +22,7 @@ use Rattle.lambdamix.proofs.Tests.{or-left, or-right}
 use Rattle.file.specs.Encodable.{Encodable}
 use Rattle.script.specs.Refusals.{scriptRefusal}
 use Rattle.script.proofs.Sound.{Sound, sound}
-use Rattle.script.proofs.Agreement.{children-fall}
+use Rattle.tables.proofs.Agreement.{children-fall}
 use Rattle.printer.specs.Nodes.{nodesText}
 use Rattle.printer.proofs.NodeLaws.{node-step}
 use Rattle.printer.proofs.Trees.{tree-text}

@@ -10,6 +10,7 @@ use lib.IntN.{ℤ}
 use lib.ListN.{length}
 use lib.Dec.{leb}
 use borrow.Author.Tests.{le-leb, lt-leb}
+use Rattle.script.specs.Columns.{nodesIn}
 use Rattle.lambdamix.specs.Script.{Script, Node, nodeAt, nodeCount, inputCount, root, blankNode}
 use Rattle.lambdamix.specs.Structure.{orElse, refusedUnless}
 use Rattle.lambdamix.specs.Text.{ascii}
@@ -26,7 +27,7 @@ use Rattle.script.proofs.RefusalLaws.{neither}
 use Rattle.script.proofs.Numbered.{length-numbered, row-at}
 use Rattle.script.proofs.Sound.{sound}
 use Rattle.printer.specs.declared.Listing.the-variants.{Listed, Refused}
-use Rattle.printer.specs.Nodes.{columnNode, nodesText, wholeText}
+use Rattle.printer.specs.Nodes.{nodesText, wholeText}
 use Rattle.printer.specs.Answers.{roomRefusal, listed, listedOutput, tablesText, listRefusal, Puts, Lists, ListsTables}
 use Rattle.printer.specs.Places.{Placed, most}
 use Rattle.printer.proofs.Trees.{tree-text}
@@ -37,10 +38,10 @@ use Rattle.printer.proofs.Trees.{tree-text}
 listing-is :
     (t i n : ℕ) (x : Tables) → 1 ≤ n →
     listing (tablesScript t i n x) ≡ wholeText i n (x .kinds) (x .a) (x .b) (x .c) (x .values)
-unfolding listing inputCount root nodeCount nodeAt tablesScript rowNode columnNode ascii
+unfolding listing inputCount root nodeCount nodeAt tablesScript rowNode ascii
 listing-is t i n x h =
     let s : Script = tablesScript t i n x in
-    let nodes : ℕ → Node = columnNode (x .kinds) (x .a) (x .b) (x .c) (x .values) in
+    let nodes : ℕ → Node = nodesIn (x .kinds) (x .a) (x .b) (x .c) (x .values) in
     let l : length (numbered (rowNode x) 0 n) ≡ n = length-numbered (rowNode x) 0 n in
     ap (λ (l : List ℕ). l ++ (10 ∷ []))
     (tree-text (inputCount s) s nodes (λ j k. row-at (rowNode x) n blankNode j (omega arith)) (root s) (omega arith)

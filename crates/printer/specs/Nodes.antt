@@ -2,8 +2,9 @@
 -- of their uses. That this is the text of the node's term is `listing-text` of proofs/Trees.antt. Assumes nothing.
 use Prim.Native.Nat.{ℕ, _-_}
 use mathlib.Core.List.{List, [], _∷_, _++_}
-use lib.IntN.{ℤ, pos}
+use lib.IntN.{ℤ}
 use lib.ListN.{getD}
+use Rattle.script.specs.Columns.{nodesIn}
 use Rattle.lambdamix.specs.declared.Use.{Use}
 use Rattle.lambdamix.specs.declared.Use.the-variants as Use
 use Rattle.lambdamix.specs.Falling.{falling, below}
@@ -64,14 +65,9 @@ nodeText n self nd =
 unfoldable pub nodesText : ℕ → (ℕ → Node) → ℕ → List ℕ
 nodesText n nodes = falling (digits 0) (λ self i. nodeText n self (nodes i))
 
--- the nodes that five columns hold
-unfoldable pub columnNode : List ℕ → List ℕ → List ℕ → List ℕ → List ℤ → ℕ → Node
-columnNode kinds a b c values i =
-    record { kind = getD kinds i 0; a = getD a i 0; b = getD b i 0; c = getD c i 0; value = getD values i (pos 0) }
-
--- the text of a node of the table that they are, given the count of inputs
+-- the text of a node that five columns hold, given the count of inputs
 abbrev pub columnText : ℕ → List ℕ → List ℕ → List ℕ → List ℕ → List ℤ → ℕ → List ℕ
-columnText n kinds a b c values = nodesText n (columnNode kinds a b c values)
+columnText n kinds a b c values = nodesText n (nodesIn kinds a b c values)
 
 -- and that of a child of node i, which stands below it
 abbrev pub childText : ℕ → List ℕ → List ℕ → List ℕ → List ℕ → List ℤ → ℕ → ℕ → List ℕ

@@ -15,13 +15,14 @@ ghost use Prim.Native.Nat.{ℕ, _+_, _*_, _<_, _≤_};
 ghost use mathlib.Core.Path.{_≡_};
 ghost use mathlib.Core.Bool.{true};
 ghost use lib.ListN.{length, getD};
+ghost use Rattle.script.specs.Columns.{inputsIn};
 ghost use Rattle.lambdamix.specs.Limits.{maxNodes};
 ghost use Rattle.lambdamix.specs.Script.{Script};
 ghost use Rattle.lambdamix.specs.Code.{lit, node, size, fits, top, after};
 ghost use Rattle.lambdamix.specs.Specializing.{finished};
 ghost use Rattle.script.specs.File.{nodeBytes, numbered};
 ghost use Rattle.script.specs.Words.{wordKind};
-ghost use Rattle.file.specs.Written.{PutWhole, inputRow};
+ghost use Rattle.file.specs.Written.{PutWhole};
 ghost use Rattle.residual.specs.Cells.{twoPieces, threePieces, codeAt, codeBelow};
 ghost use Rattle.residual.specs.AfterRun.{afterRun};
 ghost use Rattle.residual.specs.Answers.{farthest, Emits, EmitsOver, twoNode, threeNode, outcome};
@@ -136,7 +137,7 @@ fn finish_file(
     out: &mut [u8],
 ) -> Finish
     requires { ⌜ (nodes ≡ size (codeAt (now codes) p)) × (fits (codeAt (now codes) p) ≡ true) ⌝ }
-    ensures { λ r. ⌜ ((s : Script) (k : ℕ) → s .inputs ≡ numbered (inputRow (now (inputs .entry))) 0 count → outcome r k (now (out .exit)) ≡ afterRun s (finished (codeAt (now (codes .entry)) p) k) (now (out .entry))) ⌝ }
+    ensures { λ r. ⌜ ((s : Script) (k : ℕ) → s .inputs ≡ numbered (inputsIn (now (inputs .entry))) 0 count → outcome r k (now (out .exit)) ≡ afterRun s (finished (codeAt (now (codes .entry)) p) k) (now (out .entry))) ⌝ }
 {
     let n = Counts {
         types: 0,
@@ -157,7 +158,7 @@ fn finish_file(
 
 // After a run that gave the code at p: 26 [0] where it does not fit a file, then 21 [0], or the file.
 pub fn finish(codes: &[u64], p: u16, inputs: &[u16], count: u16, out: &mut [u8]) -> Finish
-    ensures { λ r. ⌜ ((s : Script) (k : ℕ) → s .inputs ≡ numbered (inputRow (now (inputs .entry))) 0 count → outcome r k (now (out .exit)) ≡ afterRun s (finished (codeAt (now (codes .entry)) p) k) (now (out .entry))) ⌝ }
+    ensures { λ r. ⌜ ((s : Script) (k : ℕ) → s .inputs ≡ numbered (inputsIn (now (inputs .entry))) 0 count → outcome r k (now (out .exit)) ≡ afterRun s (finished (codeAt (now (codes .entry)) p) k) (now (out .entry))) ⌝ }
 {
     let room = size::spend(codes, p);
     if room == 0 {

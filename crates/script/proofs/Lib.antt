@@ -4,14 +4,5 @@ pub mod RefusalLaws
 pub mod Sound
 pub mod Verdicts
 pub mod Searching
-pub mod Shapes
-pub mod UseCounts
-pub mod Lowest
-pub mod Reaching
-pub mod Heights
-pub mod Scopes
-pub mod TreeForms
-pub mod Agreement
-pub mod SameWalks
 pub mod SignedBits
 pub mod WordLaws

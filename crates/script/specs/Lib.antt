@@ -5,6 +5,4 @@ pub mod Refusals
 pub mod Tables
 pub mod Replies
 pub mod Columns
-pub mod Walks
-pub mod Reached
 pub mod Words

@@ -1,9 +1,8 @@
-// The script: its tables' words, the limits, the columns, the places of records, and the checks of structure that all share.
+// The script: its limits, the columns of its tables, the places of its records, the table of kinds, and nodes in words.
 pub mod column;
 pub mod kinds;
 pub mod limits;
 pub mod place;
-pub mod structure;
 pub mod word;
 
 // A node's number, a name and a type's number have 16 bits each, and a place that wants one never takes another.

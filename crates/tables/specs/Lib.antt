@@ -1,1 +1,3 @@
+pub mod Walks
+pub mod Reached
 pub mod PackedTables

@@ -2,3 +2,4 @@
 mod content;
 mod records;
 pub mod refusal;
+mod structure;

@@ -2,14 +2,13 @@
 use borrow.Author.Needs.{needs}
 use native.Mathlib.Omega.{arith}
 use Rattle.script.specs.Tables.{rowType, rowInput, rowNode}
-use Rattle.file.specs.Written.{typeRow, inputRow, nodeRow}
 use Rattle.file.proofs.WritingLaws.{put-length}
 use Rattle.file.proofs.WriterLaws.{put-file}
 use Rattle.file.proofs.writer.emit.Statement.{statement}
 use Rattle.file.proofs.writer.emit.Tie as tie
 
 returns : tie.Need-returns
-unfolding rowType rowInput rowNode typeRow inputRow nodeRow
+unfolding rowType rowInput rowNode
 returns c = put-file _ _ _ _ (c .before .before .before .before .before .before .before .before .before .before .before .before .before .before .head-at .ensures) (c .before .before .before .before .before .before .before .before .before .before .types-at .ensures) (c .before .before .before .before .before .before .inputs-at .ensures) (c .before .before .nodes-at .ensures)
 
 nodes-requires : tie.Need-nodes-at-requires

@@ -3,20 +3,19 @@ use borrow.Author.Needs.{needs}
 use Prim.Native.Nat.{_-_}
 use native.Mathlib.Omega.{arith}
 use Rattle.script.specs.File.{inputBytes}
-use Rattle.file.specs.Written.{inputRow}
+use Rattle.script.specs.Columns.{inputsIn}
 use Rattle.file.proofs.Layouts.{inputLayout}
 use Rattle.file.proofs.WritingLaws.{Progress, put-same, progress-none, progress-more, progress-all}
 use Rattle.file.proofs.writer.inputs_at.Statement.{statement}
 use Rattle.file.proofs.writer.inputs_at.Tie as tie
 
 abbrev Inv-loop : tie.InvT-loop
-Inv-loop out₀ inputs first count j₀ out j = Progress inputLayout (inputRow inputs) first count out₀ out j
+Inv-loop out₀ inputs first count j₀ out j = Progress inputLayout (inputsIn inputs) first count out₀ out j
 
 abbrev μ-loop : tie.MeasureT-loop
 μ-loop out₀ inputs first count j₀ out j = count - j
 
 loop-again : tie.Need-loop-again Inv-loop μ-loop
-unfolding inputRow
 loop-again c = progress-more (c .before .before .before .before .before .before .loop .inv) (c .before .before .before .before .before .loop-test .taken) (put-same (λ x. inputBytes (c .before .before .before .before .at16 .ensures x)) (c .before .before .input-at .ensures))
 
 pub inputs-at-spec : {M : Type 1} → statement M

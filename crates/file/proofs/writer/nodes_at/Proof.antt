@@ -6,20 +6,20 @@ use native.Mathlib.Omega.{arith}
 use mir.Syntax.{w32}
 use mir.Facts.{toZ-ofZ}
 use Rattle.script.specs.File.{nodeBytes, nodeOffset, fileLength}
-use Rattle.file.specs.Written.{nodeRow}
+use Rattle.script.specs.Columns.{nodesIn}
 use Rattle.file.proofs.Layouts.{nodeLayout, node-sized}
 use Rattle.file.proofs.WritingLaws.{Progress, put-same, put-there, progress-none, progress-more, progress-all}
 use Rattle.file.proofs.writer.nodes_at.Statement.{statement}
 use Rattle.file.proofs.writer.nodes_at.Tie as tie
 
 abbrev Inv-loop : tie.InvT-loop
-Inv-loop out₀ kinds a b c values first count j₀ out j = Progress nodeLayout (nodeRow kinds a b c values) first count out₀ out j
+Inv-loop out₀ kinds a b c values first count j₀ out j = Progress nodeLayout (nodesIn kinds a b c values) first count out₀ out j
 
 abbrev μ-loop : tie.MeasureT-loop
 μ-loop out₀ kinds a b c values first count j₀ out j = count - j
 
 loop-again : tie.Need-loop-again Inv-loop μ-loop
-unfolding nodeRow fileLength nodeOffset
+unfolding fileLength nodeOffset
 loop-again c = progress-more (c .before .before .before .before .before .before .before .before .before .before .loop .inv) (c .before .before .before .before .before .before .before .before .before .loop-test .taken) (put-same (λ x. nodeBytes (record { kind = c .before .before .before .before .before .before .before .before .at8 .ensures x; a = c .before .before .before .before .before .before .before .at16 .ensures x; b = c .before .before .before .before .before .before .at162 .ensures x; c = c .before .before .before .before .before .at163 .ensures x; value = (toZ-ofZ {w = w32} (record { sfits = c .before .before .before .before .at32 .ok }) ∙ c .before .before .before .before .at32 .ensures) x })) (put-there (node-sized _) (omega (arith, c .before .before .before .before .before .before .before .before .before .before .before .before .before .before .before .before .before .before .before .pre, c .before .before .before .before .before .before .before .before .before .before .loop .inv .kept, c .before .before .before .before .before .before .before .before .before .loop-test .taken)) (c .before .before .node-at .ensures)))
 
 pub nodes-at-spec : {M : Type 1} → statement M

@@ -4,20 +4,19 @@ use Prim.Native.Nat.{_-_}
 use native.Mathlib.Omega.{arith}
 use lib.Dec.{lit<}
 use Rattle.script.specs.File.{typeBytes}
-use Rattle.file.specs.Written.{typeRow}
+use Rattle.script.specs.Columns.{typesIn}
 use Rattle.file.proofs.Layouts.{typeLayout}
 use Rattle.file.proofs.WritingLaws.{Progress, put-same, progress-none, progress-more, progress-all}
 use Rattle.file.proofs.writer.types_at.Statement.{statement}
 use Rattle.file.proofs.writer.types_at.Tie as tie
 
 abbrev Inv-loop : tie.InvT-loop
-Inv-loop out₀ parameters results count j₀ out j = Progress typeLayout (typeRow parameters results) 8 count out₀ out j
+Inv-loop out₀ parameters results count j₀ out j = Progress typeLayout (typesIn parameters results) 8 count out₀ out j
 
 abbrev μ-loop : tie.MeasureT-loop
 μ-loop out₀ parameters results count j₀ out j = count - j
 
 loop-again : tie.Need-loop-again Inv-loop μ-loop
-unfolding typeRow
 loop-again c = progress-more (c .before .before .before .before .before .before .before .loop .inv) (c .before .before .before .before .before .before .loop-test .taken) (put-same (λ x. typeBytes (record { parameter = c .before .before .before .before .before .at16 .ensures x; result = c .before .before .before .before .at162 .ensures x })) (c .before .before .type-at .ensures))
 
 pub types-at-spec : {M : Type 1} → statement M

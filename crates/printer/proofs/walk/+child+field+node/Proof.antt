@@ -5,7 +5,8 @@ use mathlib.Core.Path.{_∙_}
 use native.Mathlib.Omega.{arith}
 use mir.Facts.{toZ-ofZ}
 use Prim.Native.Nat.{ℕ, _+_, _*_, _<_}
-use Rattle.printer.specs.Nodes.{fieldText, columnNode}
+use Rattle.script.specs.Columns.{nodesIn}
+use Rattle.printer.specs.Nodes.{fieldText}
 use Rattle.printer.proofs.Writing.{stays, join}
 use Rattle.printer.proofs.NodeLaws.{child-placed, no-child-placed, node-placed}
 use borrow.Fn.Kinds.{In}
@@ -112,10 +113,9 @@ node-same-length t c =
     omega (arith, c .before .before .before .before .before .before .before .before .before .before .before .before .before .before .before .before .before .before .before .before .before .before .before .frame-at .kept, c .before .before .before .before .before .before .before .before .before .before .before .before .before .before .before .before .before .before .word-at .kept, c .before .before .before .before .before .before .before .before .before .before .before .before .before .before .field .kept, c .before .before .before .before .before .before .before .before .before .before .field2 .kept, c .before .before .before .before .before .before .field3 .kept, c .before .before .frame-at2 .kept)
 
 node-returns : (t : ℕ) → node-lts.Need-returns (node-given t) (node-at t) node.Post
-unfolding columnNode
 node-returns t c =
     let s = c .before .before .before .before .before .before .before .before .before .before .before .before .before .before .before .before .before .before .before .before .before .before .before .before .before .before .before .before .before .before .before .before .before .before .before .before .before .before .before .args in
-    node-placed (s .inputs) (columnNode (s .kinds .now) (s .a .now) (s .b .now) (s .c .now) (s .values .now)) (s .i .0)
+    node-placed (s .inputs) (nodesIn (s .kinds .now) (s .a .now) (s .b .now) (s .c .now) (s .values .now)) (s .i .0)
     (c .before .before .before .before .before .before .before .before .before .before .before .before .before .before .before .before .before .before .before .before .before .before .before .before .before .before .before .before .before .before .before .before .at8 .ensures)
     (c .before .before .before .before .before .before .before .before .before .before .before .before .before .before .before .before .before .before .before .before .before .before .before .before .before .before .before .before .before .before .at16 .ensures)
     (c .before .before .before .before .before .before .before .before .before .before .before .before .before .before .before .before .before .before .before .before .before .before .before .before .before .before .before .before .before .at162 .ensures)

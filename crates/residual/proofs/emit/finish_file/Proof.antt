@@ -5,7 +5,7 @@ use Prim.Native.Nat.{_≤_}
 use native.Mathlib.Omega.{arith}
 use lib.ListN.{length}
 use Rattle.script.specs.File.{nodeOffset, fileLength}
-use Rattle.file.specs.Written.{inputRow}
+use Rattle.script.specs.Columns.{inputsIn}
 use Rattle.residual.specs.Cells.{codeAt}
 use Rattle.residual.proofs.Finishing.{fits-small, top-low, finish-written, finish-short, put-written, nodes-room}
 use Rattle.residual.proofs.emit.finish_file.Statement.{statement}
@@ -15,7 +15,7 @@ returns : tie.Need-returns
 returns c =
     let a = c .before .before .before .before .before .args in
     let p = c .before .before .before .before .before .pre in
-    λ x k i. finish-short x (inputRow (a .inputs .now)) (a .count) i (codeAt (a .codes .now) (a .p)) (p .0) k (p .1) (omega (arith, c .if1 .taken, c .before .file-size .ensures))
+    λ x k i. finish-short x (inputsIn (a .inputs .now)) (a .count) i (codeAt (a .codes .now) (a .p)) (p .0) k (p .1) (omega (arith, c .if1 .taken, c .before .file-size .ensures))
 
 emit-root-requires : tie.Need-emit-root-requires
 unfolding nodeOffset
@@ -30,7 +30,7 @@ returns-2 c =
     let a = c .before .before .before .before .before .before .before .before .before .before .before .before .before .before .before .before .before .before .args in
     let p = c .before .before .before .before .before .before .before .before .before .before .before .before .before .before .before .before .before .before .pre in
     let d = codeAt (a .codes .now) (a .p) in
-    let g = inputRow (a .inputs .now) in
+    let g = inputsIn (a .inputs .now) in
     let h = c .before .before .before .before .before .before .before .before .before .before .before .head-at .ensures in
     let i = c .before .before .before .before .before .before .before .inputs-at .ensures in
     let b = c .before .before .before .node-offset .ensures in

@@ -1,6 +1,5 @@
 -- `specializer::before::call_refused` meets its contract: the first of two refusals is told. Assumes nothing.
 use mathlib.Core.Path.{refl}
-use Rattle.file.specs.Written.{inputRow}
 use Rattle.script.specs.Tables.{rowInput, tablesScript}
 use Rattle.annotation.proofs.Joining.{refused-first, passed-first}
 use Rattle.specializer.specs.Entry.{laterRefusal}
@@ -13,7 +12,7 @@ unfolding laterRefusal
 returns c = λ ks xs ys zs vs ok p ss l. refused-first _ (c .before .before .before .annotation-by .ensures ks xs ys zs vs ok p) (c .before .f .given .1)
 
 returns-2 : tie.Need-returns-2
-unfolding laterRefusal tablesScript rowInput inputRow
+unfolding laterRefusal tablesScript rowInput
 returns-2 c =
     λ ks xs ys zs vs ok p ss l. passed-first _ _ (c .before .before .before .annotation-by .ensures ks xs ys zs vs ok p) (c .before .enum-told .given .1)
     (λ e. c .call-or-stores-refusal .ensures _ ss refl l)

@@ -1,0 +1,170 @@
+-- Refusals 6, 7 and 8 of the paper on columns, by recursion on falling node numbers: what the code of the structure check
+-- computes. That it is what the definitions on the tree say is shown in proofs/. Assumes nothing.
+use Prim.Native.Nat.{ℕ, zero, suc, _+_, _≤_, _<_, min, max}
+use mathlib.Core.Path.{_≡_}
+use mathlib.Core.Bool.{Bool, true, false, _||_}
+use mathlib.Core.List.{List, [], _∷_}
+use mathlib.Core.Option.{Option, none, some}
+use lib.IntN.{pos}
+use lib.ListN.{getD, length}
+use lib.Dec.{leb, ltb, eqb}
+use Rattle.lambdamix.specs.declared.Use.{Use}
+use Rattle.lambdamix.specs.declared.Use.the-variants.{Nothing, Name, Binder, Child, ParameterType, Operation}
+use Rattle.lambdamix.specs.Limits.{maxNodes, maxHeight}
+use Rattle.lambdamix.specs.Falling.{below, falling}
+use Rattle.lambdamix.specs.Structure.{firstBy, occurrences, lowest, member, unlessBound, structureRefusal}
+use Rattle.script.specs.declared.Verdict.{Verdict}
+use Rattle.script.specs.Kinds.{useOf}
+use Rattle.script.specs.Refusals.{nodeFits}
+use Rattle.script.specs.Tables.{Tables, rowNode, tablesScript}
+use Rattle.script.specs.Words.{wordKind, wordA, wordB, wordC, Columns, Packed}
+use Rattle.script.specs.Replies.{refusalOf}
+
+-- the columns of tables
+abbrev pub columnsOf : Tables → Columns
+columnsOf x =
+    record {
+      kind = λ i. getD (x .kinds) i 0;
+      a = λ i. getD (x .a) i 0;
+      b = λ i. getD (x .b) i 0;
+      c = λ i. getD (x .c) i 0;
+      value = λ i. getD (x .values) i (pos 0);
+    }
+
+-- the use of a field of node i
+unfoldable pub useAt : Columns → ℕ → ℕ → Use
+useAt x i f = useOf (x .kind i) f
+
+abbrev pub isChild : Use → Bool
+isChild Nothing = false
+isChild Name = false
+isChild Binder = false
+isChild Child = true
+isChild ParameterType = false
+isChild Operation = false
+
+-- a field in front of others, where a test holds
+unfoldable pub keptIf : Bool → ℕ → List ℕ → List ℕ
+keptIf true f fs = f ∷ fs
+keptIf false f fs = fs
+
+-- the children of node i
+unfoldable pub childrenAt : Columns → ℕ → List ℕ
+childrenAt x i =
+    keptIf (isChild (useAt x i 0)) (x .a i)
+    (keptIf (isChild (useAt x i 1)) (x .b i) (keptIf (isChild (useAt x i 2)) (x .c i) []))
+
+-- the fields that are children by the table's row of kind k
+abbrev pub rowChildren : ℕ → ℕ → ℕ → ℕ → List ℕ
+rowChildren k a b c = keptIf (isChild (useOf k 0)) a (keptIf (isChild (useOf k 1)) b (keptIf (isChild (useOf k 2)) c []))
+
+-- the children of a node in a word
+unfoldable pub wordChildren : ℕ → List ℕ
+wordChildren w = rowChildren (wordKind w) (wordA w) (wordB w) (wordC w)
+
+-- at how many places the first n nodes have j as a child
+unfoldable pub usesBelow : Columns → ℕ → ℕ → ℕ
+usesBelow x zero j = 0
+usesBelow x (suc n) j = usesBelow x n j + occurrences j (childrenAt x n)
+
+unfoldable pub usedOnceAt : Columns → ℕ → ℕ → Bool
+usedOnceAt x n j = eqb (usesBelow x n j) 1
+
+-- counts up to two, after so many more uses of each node
+pub record Counted (more : ℕ → ℕ) (before after : List ℕ) : Type 0 where
+  pub same : length after ≡ length before
+  pub each : (j : ℕ) → j < length before → min 2 (getD after j 0) ≡ min 2 (getD before j 0 + more j)
+
+-- the answers at some nodes, joined
+unfoldable pub gathered : {A : Type 0} → (A → A → A) → A → (ℕ → A) → List ℕ → A
+gathered join d self [] = d
+gathered join d self (i ∷ is) = join (self i) (gathered join d self is)
+
+-- "height 256 (a leaf has height 1)"
+unfoldable pub heightStep : Columns → (ℕ → ℕ) → ℕ → ℕ
+heightStep x self i = suc (gathered max 0 self (childrenAt x i))
+
+unfoldable pub heightAt : Columns → ℕ → ℕ
+heightAt x = falling 1 (heightStep x)
+
+-- the lowest node of a node's tree that is too high
+unfoldable pub tooHighStep : Columns → (ℕ → Option ℕ) → ℕ → Option ℕ
+tooHighStep x self i = lowest (firstBy (leb (heightAt x i) maxHeight) i none) (gathered lowest none self (childrenAt x i))
+
+unfoldable pub tooHighAt : Columns → ℕ → Option ℕ
+tooHighAt x = falling none (tooHighStep x)
+
+-- what a walk of heights answers in one number: a height within the limit, or the limit and one plus the lowest node that is
+-- too high
+pub data Tall : ℕ → ℕ → Option ℕ → Type 0 where
+  low : {h : ℕ} → h ≤ maxHeight → Tall h h none
+  high : {r h j : ℕ} → r ≡ maxHeight + 1 + j → maxHeight < h → j < 65536 → Tall r h (some j)
+
+abbrev pub isName : Use → Bool
+isName Nothing = false
+isName Name = true
+isName Binder = false
+isName Child = false
+isName ParameterType = false
+isName Operation = false
+
+abbrev pub isBinder : Use → Bool
+isBinder Nothing = false
+isBinder Name = false
+isBinder Binder = true
+isBinder Child = false
+isBinder ParameterType = false
+isBinder Operation = false
+
+-- the answers of two walks in one, and a node over the answer of its children
+pub record TallJoin (p q r : ℕ) : Type 0 where
+  pub joined : (h g : ℕ) (t u : Option ℕ) → Tall p h t → Tall q g u → Tall r (max h g) (lowest t u)
+
+pub record TallNode (i p r : ℕ) : Type 0 where
+  pub over : (h : ℕ) (t : Option ℕ) → Tall p h t → Tall r (suc h) (lowest (firstBy (leb (suc h) maxHeight) i none) t)
+
+-- what a walk of heights answers of some children of node i
+abbrev pub TallOver : Columns → ℕ → List ℕ → ℕ → Type 0
+TallOver x i ms r = Tall r (gathered max 0 (below i 1 (heightAt x)) ms) (gathered lowest none (below i none (tooHighAt x)) ms)
+
+-- node i, if it is a variable that is no input and not among the names
+unfoldable pub unboundName : Bool → ℕ → List ℕ → ℕ → ℕ → Option ℕ
+unboundName true n xs x i = unlessBound (ltb x n || member x xs) i
+unboundName false n xs x i = none
+
+-- the lowest unbound variable under a node, given the names around its children; names stand in field a
+unfoldable pub unboundUnder : Columns → ℕ → (ℕ → List ℕ → Option ℕ) → ℕ → List ℕ → Option ℕ
+unboundUnder x n self i xs =
+    lowest (unboundName (isName (useAt x i 0)) n xs (x .a i) i) (gathered lowest none (λ m. self m xs) (childrenAt x i))
+
+unfoldable pub unboundStep : Columns → ℕ → (ℕ → List ℕ → Option ℕ) → ℕ → List ℕ → Option ℕ
+unboundStep x n self i xs = unboundUnder x n self i (keptIf (isBinder (useAt x i 0)) (x .a i) xs)
+
+unfoldable pub unboundAt : Columns → ℕ → ℕ → List ℕ → Option ℕ
+unboundAt x n = falling (λ xs. none) (unboundStep x n)
+
+-- the first d names, the innermost first
+unfoldable pub innermost : List ℕ → ℕ → List ℕ
+innermost s zero = []
+innermost s (suc d) = getD s d 0 ∷ innermost s d
+
+-- the first d names are as they were
+pub record Kept (d : ℕ) (before after : List ℕ) : Type 0 where
+  pub same : length after ≡ length before
+  pub names : (k : ℕ) → k < d → getD after k 0 ≡ getD before k 0
+
+-- a place in one number: 65535 is none
+pub data Place : ℕ → Option ℕ → Type 0 where
+  nowhere : {r : ℕ} → r ≡ 65535 → Place r none
+  node : {j : ℕ} → j < 65535 → Place j (some j)
+
+-- what a walk finds, and that it leaves the names around it
+pub record Scoped (place : Option ℕ) (d : ℕ) (before after : List ℕ) (r : ℕ) : Type 0 where
+  pub found : Place r place
+  pub kept : Kept d before after
+
+-- The structure check's answer of nodes in words: refusals 6 to 8 of a script whose nodes they are, if every node fits.
+pub record Structured (ws : List ℕ) (i n : ℕ) (r : Verdict) : Type 0 where
+  pub refusal :
+      (t : ℕ) (x : Tables) → 1 ≤ n → n ≤ maxNodes → Packed n (rowNode x) ws
+      → ((j : ℕ) → j < n → nodeFits t i (rowNode x) j ≡ true) → refusalOf r ≡ structureRefusal (tablesScript t i n x)
