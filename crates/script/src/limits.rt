@@ -12,7 +12,7 @@ pub const MAX_NODES: usize = 4096;
 pub const MAX_HEIGHT: usize = 256;
 
 // A script of at most so many nodes is checked in arrays of this length: to clear longer ones could take as long as the check.
-pub const FEW_NODES: usize = 256;
+pub const FEW_NODES: usize = 128;
 
 // "64 listed types, 16 inputs, 1 to 4,096 nodes"
 pub fn counts_right(n: Counts) -> bool

@@ -8,7 +8,7 @@ use Rattle.annotation.proofs.check.check.Statement.{statement}
 use Rattle.annotation.proofs.check.check.Tie as tie
 
 check-in-requires : tie.Need-check-in-requires
-check-in-requires c κs = omega (arith, c .before .if1 .taken, length-replicate {A = ℕ} 256 0)
+check-in-requires c κs = omega (arith, c .before .if1 .taken, length-replicate {A = ℕ} 128 0)
 
 returns : tie.Need-returns
 returns c = c .before .check-in .ensures

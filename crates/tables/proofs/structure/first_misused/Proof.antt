@@ -13,7 +13,7 @@ returns : tie.Need-returns
 unfolding usedOnceAt
 returns c =
     c .first-not-one .ensures
-    ∙ first-same _ _ 0 _ (λ j l. counted-once _ 256 _ (c .before .before .before .count-nodes .ensures) j (omega (arith, c .before .before .before .before .before .if1 .taken)))
+    ∙ first-same _ _ 0 _ (λ j l. counted-once _ 128 _ (c .before .before .before .count-nodes .ensures) j (omega (arith, c .before .before .before .before .before .if1 .taken)))
 
 returns-2 : tie.Need-returns-2
 unfolding usedOnceAt maxNodes
