@@ -1,6 +1,7 @@
 -- `file::writer::node_at` meets its contract: where there is room for all bytes, and where there is not. Assumes nothing.
 use borrow.Author.Needs.{needs}
 use mathlib.Core.Path.{ap, _∙_}
+use native.Mathlib.Omega.{arith}
 use mir.Facts.{toZ-ofZ}
 use Rattle.script.specs.Bytes.{bits32}
 use Rattle.script.specs.File.{nodeBytes}
@@ -12,10 +13,10 @@ use Rattle.file.proofs.writer.node_at.Tie as tie
 
 returns : tie.Need-returns
 unfolding nodeBytes nodeParts
-returns c = put-whole (node-sized _) (c .before .before .before .before .before .if1 .taken) (rw (c .before .before .before .bits .ensures ∙ ap bits32 (toZ-ofZ (c .before .before .before .before .before .before .before .fits .value))) at (c .before .before .node-inside .ensures))
+returns c = put-whole (node-sized _) (omega (arith, c .before .before .before .before .before .if1 .taken)) (rw (c .before .before .before .bits .ensures ∙ ap bits32 (toZ-ofZ (c .before .before .before .before .before .before .before .fits .value))) at (c .before .before .node-inside .ensures))
 
 returns-2 : tie.Need-returns-2
-returns-2 c = put-none (node-sized _) (c .if1 .left)
+returns-2 c = put-none (node-sized _) (omega (arith, c .if1 .left))
 
 pub node-at-spec : {M : Type 1} → statement M
 node-at-spec =
