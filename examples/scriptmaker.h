@@ -21,9 +21,10 @@ enum {
     SCRIPTMAKER_INPUTS = 16,
     SCRIPTMAKER_NODES = 4096,
     SCRIPTMAKER_FUEL = 16000,
-    SCRIPTMAKER_HEAP = SCRIPTMAKER_FUEL + 16,     /* places of the heap for the greatest fuel */
-    SCRIPTMAKER_CODES = 2 * SCRIPTMAKER_FUEL + 16, /* places of codes for the greatest fuel */
-    SCRIPTMAKER_FILE = 8 + 6 * 64 + 4 * 16 + 13 * 4096, /* bytes of the longest script file */
+    SCRIPTMAKER_HEAP = SCRIPTMAKER_FUEL + SCRIPTMAKER_INPUTS,      /* places of the heap for the greatest fuel */
+    SCRIPTMAKER_CODES = 2 * SCRIPTMAKER_FUEL + SCRIPTMAKER_INPUTS, /* places of codes for the greatest fuel */
+    /* bytes of the longest script file */
+    SCRIPTMAKER_FILE = 8 + 6 * SCRIPTMAKER_TYPES + 4 * SCRIPTMAKER_INPUTS + 13 * SCRIPTMAKER_NODES,
     SCRIPTMAKER_LISTING = 65536, /* no listing is longer */
     SCRIPTMAKER_STACK = 4 * 1024 * 1024
 };
@@ -64,22 +65,27 @@ struct scriptmaker_make_reply {
         size_t kinds_length, QUALIFIER uint16_t *a, size_t a_length, QUALIFIER uint16_t *b, size_t b_length, \
         QUALIFIER uint16_t *c, size_t c_length, QUALIFIER int32_t *values, size_t values_length
 
-/* Refusals 1 to 8, then 21; what is not refused fills the lent tables, a refusal leaves them as they were. */
+/* Refusals 1 to 8, then 21 where the tables are shorter than the file's counts; what is not refused fills the lent tables, a
+ * refusal leaves them as they were. */
 struct scriptmaker_read_reply scriptmaker_read(const uint8_t *file, size_t file_length, SCRIPTMAKER_COLUMNS());
 
-/* Tables shorter than the counts: 1; the refusals of the tables' file; 21 for a short output, which then stays as it was. */
+/* All that follow take counts and tables. Tables shorter than the counts are refused before all else with 1 and place 0 (not a
+ * length); then come refusals 3 to 8, with the places that they have in the file of the tables. */
+
+/* These refusals; then 21 for a short output. The file is written to the output, which a refusal leaves as it was. */
 struct scriptmaker_write_reply scriptmaker_write(struct scriptmaker_counts counts, SCRIPTMAKER_COLUMNS(const),
                                                  uint8_t *out, size_t out_length);
 
-/* Refusals 1 to 8 as the file of the tables, then 21; what is not refused is listed into the output, a newline at its end. */
+/* These refusals; then 21 for a short output. The listing is written to the output, a newline at its end; a refusal leaves the
+ * output as it was. */
 struct scriptmaker_write_reply scriptmaker_list(struct scriptmaker_counts counts, SCRIPTMAKER_COLUMNS(const),
                                                 uint8_t *out, size_t out_length);
 
-/* Refusals 1 to 8 as the file of the tables, then 9 to 11. */
+/* These refusals, then 9 to 11. */
 struct scriptmaker_check_reply scriptmaker_check(struct scriptmaker_counts counts, SCRIPTMAKER_COLUMNS(const));
 
-/* Refusals 1 to 13 and 20, the run, 26, 21; finished code is written to the output as a script file. The stores are untouched
- * before a run and hold zeros after it. */
+/* These refusals, then 9 to 13 and 20; the run, with stops 22 to 25; 26, 21. Finished code is written to the output as a script
+ * file; without code the output stays as it was. The stores are untouched before a run and hold zeros after it. */
 struct scriptmaker_make_reply scriptmaker_make(struct scriptmaker_counts counts, SCRIPTMAKER_COLUMNS(const),
                                                const int32_t *settings, size_t settings_length, uint32_t fuel,
                                                uint64_t *heap, size_t heap_length, uint64_t *codes,

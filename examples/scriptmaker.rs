@@ -310,7 +310,8 @@ impl Script {
         Ok(())
     }
 
-    /// Writes the script file of these tables, and gives its length: refusals 1 to 8, then 21.
+    /// Writes the script file of these tables, and gives its length: refusals 1 to 8, then 21. Here and below, tables shorter than
+    /// the counts give 1 with place 0; the other refusals have the places that they have in the file of the tables.
     pub fn write(&self, out: &mut [u8]) -> Result<usize, Refusal> {
         // SAFETY: each pointer and length come from one slice, and `out` overlaps no other.
         let reply = unsafe {
