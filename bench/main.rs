@@ -24,6 +24,7 @@ mod tuned;
 use inputs::Input;
 use specializer::Lent;
 use std::hint::black_box;
+use std::process::ExitCode;
 use tuned::Reply;
 
 const REPEATS: usize = 25;
@@ -226,8 +227,12 @@ fn row(what: &str, case: &mut Case, jobs: &[Job]) -> Vec<f64> {
     taken.iter().map(|xs| xs.iter().copied().fold(f64::MAX, f64::min)).collect()
 }
 
-fn main() {
+const USAGE: &str = "bench PLOT (a file to write), bench stack, or bench once JOB INPUT (make-library, check-tuned, list-reference \
+                     and the like; 0 to 5)";
+
+fn main() -> ExitCode {
     let words: Vec<String> = std::env::args().skip(1).collect();
+    let words: Vec<&str> = words.iter().map(String::as_str).collect();
     let cases = || {
         let all = vec![
             inputs::power(249, 4000),
@@ -239,27 +244,35 @@ fn main() {
         ];
         all.into_iter().map(Case::new).collect::<Vec<Case>>()
     };
-    match words.first().map(String::as_str) {
-        Some("once") => once(&mut cases(), &words[1], &words[2]),
-        Some("stack") => stack::report(),
-        _ => all(&mut cases(), words.first().expect("where the plot goes")),
+    let done = match words[..] {
+        ["once", job, index] => once(&mut cases(), job, index),
+        ["stack"] => Some(stack::report()),
+        [plot] if plot != "once" && !plot.starts_with('-') => Some(all(&mut cases(), plot)),
+        _ => None,
+    };
+    if done.is_none() {
+        eprintln!("{USAGE}");
+        return ExitCode::from(2);
     }
+    ExitCode::SUCCESS
 }
 
-/// 20 calls of one job on one input, for a profiler.
-fn once(cases: &mut [Case], job: &str, index: &str) {
-    let case = &mut cases[index.parse::<usize>().expect("an input's number")];
-    let (what, who) = job.split_once('-').expect("make-library and the like");
+/// 20 calls of one job on one input, for a profiler; nothing where there is no such job or input.
+fn once(cases: &mut [Case], job: &str, index: &str) -> Option<()> {
+    let (what, who) = job.split_once('-')?;
     let jobs: &[Job] = match what {
         "make" => &MAKE,
         "check" => &CHECK,
-        _ => &LIST,
+        "list" => &LIST,
+        _ => return None,
     };
-    let job = jobs.iter().find(|job| job.0 == who).expect("a job");
+    let job = jobs.iter().find(|job| job.0 == who)?;
+    let case = cases.get_mut(index.parse::<usize>().ok()?)?;
     println!("{}", case.input.name);
     for _ in 0..20 {
         job.1(case);
     }
+    Some(())
 }
 
 fn all(cases: &mut [Case], plot_to: &str) {
