@@ -2,7 +2,7 @@
 -- which function types are listed, and what the rules on types say of numbers. Assumes nothing.
 use Prim.Native.Nat.{ℕ, zero, suc, _+_, _-_, _≤_, _<_}
 use mathlib.Core.Path.{_≡_, refl, sym, _∙_}
-use mathlib.Core.Bool.{Bool, true, false, _&&_, and-true}
+use mathlib.Core.Bool.{Bool, true, false, _&&_, and-true, false≢true}
 use mathlib.Core.List.{[], _∷_}
 use mathlib.Core.Logic.{⊎-elim, _⊎_, inl, inr}
 use mathlib.Core.Option.{Option, none, some}
@@ -25,16 +25,13 @@ use Rattle.script.proofs.Sound.{Sound}
 no-type : (o : Option ℕ) → isNone o ≡ true → o ≡ none
 unfolding isNone
 no-type none e = refl
-no-type (some i) e = let z : _≡_ {A = ℕ} 0 1 = cc in let n : ⊥ = omega arith in absurd n
+no-type (some i) e = absurd (false≢true e)
 
 -- two tests that imply each other are one
 same-tests : (a b : Bool) → (a ≡ true → b ≡ true) → (b ≡ true → a ≡ true) → a ≡ b
 same-tests true b f g = sym (f refl)
 same-tests false true f g = g refl
 same-tests false false f g = refl
-
-false-true : {P : Type 0} → false ≡ true → P
-false-true e = let z : _≡_ {A = ℕ} 0 1 = cc in let n : ⊥ = omega arith in absurd n
 
 compared : (i j : ℕ) → (i ≡ j) ⊎ ((i < j) ⊎ (j < i))
 compared i j =
@@ -50,7 +47,7 @@ some-type f (suc n) t k h e =
 
 which-type : (f : ℕ → Ty) (n : ℕ) (t : Ty) → someType f n t ≡ true → (k : ℕ) × (k < n) × (sameType (f k) t ≡ true)
 unfolding someType
-which-type f zero t e = false-true e
+which-type f zero t e = absurd (false≢true e)
 which-type f (suc n) t e =
     ⊎-elim (λ w. (n, omega arith, w)) (λ w. let (k, h, q) = which-type f n t w in (k, omega arith, q))
     (or-cases (sameType (f n) t) (someType f n t) e)
@@ -113,8 +110,8 @@ module _ (s : Script) (ok : Sound s) where
   same-record i j h l p q =
       elim (compared i j) [
         | inl e ↦ e
-        | inr w ↦ ⊎-elim (λ v. false-true (sym (once i j v l) ∙ and-intro (eq-eqb _ _ p) (eq-eqb _ _ q)))
-            (λ v. false-true (sym (once j i v h) ∙ and-intro (eq-eqb _ _ (sym p)) (eq-eqb _ _ (sym q)))) w
+        | inr w ↦ ⊎-elim (λ v. absurd (false≢true (sym (once i j v l) ∙ and-intro (eq-eqb _ _ p) (eq-eqb _ _ q))))
+            (λ v. absurd (false≢true (sym (once j i v h) ∙ and-intro (eq-eqb _ _ (sym p)) (eq-eqb _ _ (sym q))))) w
       ]
 
   same-views :
@@ -123,13 +120,13 @@ module _ (s : Script) (ok : Sound s) where
       {j k : ℕ} {t u : Ty} → j ≤ g → View s j t → View s k u → sameType t u ≡ true → j ≡ k
   unfolding sameType typeCount
   same-views g ih h (static e) (static f) q = e ∙ sym f
-  same-views g ih h (static e) (dynamic f) q = false-true q
-  same-views g ih h (static e) (arrow j f l) q = false-true q
-  same-views g ih h (dynamic e) (static f) q = false-true q
+  same-views g ih h (static e) (dynamic f) q = absurd (false≢true q)
+  same-views g ih h (static e) (arrow j f l) q = absurd (false≢true q)
+  same-views g ih h (dynamic e) (static f) q = absurd (false≢true q)
   same-views g ih h (dynamic e) (dynamic f) q = e ∙ sym f
-  same-views g ih h (dynamic e) (arrow j f l) q = false-true q
-  same-views g ih h (arrow i e m) (static f) q = false-true q
-  same-views g ih h (arrow i e m) (dynamic f) q = false-true q
+  same-views g ih h (dynamic e) (arrow j f l) q = absurd (false≢true q)
+  same-views g ih h (arrow i e m) (static f) q = absurd (false≢true q)
+  same-views g ih h (arrow i e m) (dynamic f) q = absurd (false≢true q)
   same-views g ih h (arrow i e m) (arrow j f l) q =
       let (a, b) = and-both (sameType (typeOf s (pair s i .parameter)) (typeOf s (pair s j .parameter))) _ q in
       let (c, d) = parts i m in
@@ -160,7 +157,7 @@ module _ (s : Script) (ok : Sound s) where
       listed s (typeOf s p ⇒ typeOf s r) ≡ false
   unfolding listed typeCount sameType
   unlisted-pair p r hp hr other =
-      same-tests _ _ (λ e. let (k, h, q) = which-type (typeOf s) (2 + length (s .types)) (typeOf s p ⇒ typeOf s r) e in refuted (view k h) q) (λ e. false-true e)
+      same-tests _ _ (λ e. let (k, h, q) = which-type (typeOf s) (2 + length (s .types)) (typeOf s p ⇒ typeOf s r) e in refuted (view k h) q) (λ e. absurd (false≢true e))
     where
       refuted : {k : ℕ} {t : Ty} → View s k t → sameType t (typeOf s p ⇒ typeOf s r) ≡ true → false ≡ true
       refuted (static e) q = q
