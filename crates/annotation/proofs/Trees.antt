@@ -5,19 +5,19 @@ use mathlib.Core.Path.{_≡_, refl, ap, ap₂, _∙_}
 use mathlib.Core.Bool.{true}
 use mathlib.Core.List.{List, [], _∷_}
 use lib.ListN.{length, getD}
-use lib.Dec.{leb, ltb}
-use borrow.Author.Tests.{ltb-true}
-use Rattle.lambdamix.specs.declared.Use.{Use}
-use Rattle.lambdamix.specs.declared.Use.the-variants.{Nothing, Name, Binder, Child, ParameterType, Operation}
-use Rattle.lambdamix.specs.Script.{Script, rows, rowOf, blankRow, nodeAt, nodeCount, fields, ifChild, childFields, children}
+use lib.Dec.{leb, ltb, eqb}
+use borrow.Author.Tests.{ltb-true, eq-eqb}
+use Rattle.lambdamix.specs.Script.{Script, rows, rowOf, blankRow, nodeAt, nodeCount, fields, childFields, children}
+use Rattle.lambdamix.specs.Structure.{member}
 use Rattle.lambdamix.specs.Falling.{below}
 use Rattle.lambdamix.specs.Term.{Term, consT, build, terms, treeStep, tree, blankTerm, height, heights}
 use Rattle.lambdamix.specs.Types.{typeCount}
 use Rattle.lambdamix.proofs.Falling.{falling-step, below-at}
-use Rattle.lambdamix.proofs.Tests.{and-both}
+use Rattle.lambdamix.proofs.Tests.{and-both, or-left, or-right}
 use Rattle.script.specs.Refusals.{fieldRight, fieldsRight, nodeFits}
 use Rattle.script.specs.Words.{wordKind, wordA, wordB, wordC, Holds}
 use Rattle.tables.proofs.TreeForms.{All, high-row, heights-gathered}
+use Rattle.tables.proofs.Agreement.{children-fall}
 use Rattle.annotation.specs.Walks.{Lent}
 use Rattle.script.proofs.Sound.{Sound}
 
@@ -25,22 +25,11 @@ use Rattle.script.proofs.Sound.{Sound}
 abbrev pub Below : ℕ → List ℕ → Type 0
 Below i ms = All (λ m. m < i) ms
 
-module _ (t n i : ℕ) where
-  children-below : (us : List Use) (fs : List ℕ) → fieldsRight t n i us fs ≡ true → Below i (childFields us fs)
-  unfolding fieldRight fieldsRight ifChild childFields All
-  children-below [] fs e = tt
-  children-below (u ∷ us) [] e = tt
-  children-below (u ∷ us) (f ∷ fs) e =
-      let (p, q) = and-both (fieldRight t n i u f) _ e in
-      by-use u p (children-below us fs q)
-    where
-      by-use : (w : Use) → fieldRight t n i w f ≡ true → Below i (childFields us fs) → Below i (ifChild w f (childFields us fs))
-      by-use Nothing p h = h
-      by-use Name p h = h
-      by-use Binder p h = h
-      by-use Child p h = (ltb-true f i p, h)
-      by-use ParameterType p h = h
-      by-use Operation p h = h
+members-below : (i : ℕ) (ms : List ℕ) → ((m : ℕ) → member m ms ≡ true → m < i) → Below i ms
+unfolding member All
+members-below i [] h = tt
+members-below i (m ∷ ms) h =
+    (h m (or-left (member m ms) (eq-eqb m m refl)), members-below i ms (λ k e. h k (or-right (eqb m k) e)))
 
 below-terms : (i : ℕ) (f : ℕ → Term) (ms : List ℕ) → Below i ms → terms (below i blankTerm f) ms ≡ terms f ms
 unfolding terms All
@@ -59,8 +48,7 @@ module _ (s : Script) (ok : Sound s) (i : ℕ) (h : i < nodeCount s) where
   kind-known = ltb-true _ _ (and-both (ltb (nodeAt s i .kind) 13) _ (ok .nodes-fit i h) .0)
 
   pub below-parent : Below i (children (nodeAt s i))
-  unfolding children
-  below-parent = children-below _ _ i _ _ fields-right
+  below-parent = members-below i _ (λ m. children-fall _ _ (nodeAt s) i m (ok .nodes-fit i h))
 
   -- a function names a type of the script
   pub named-type : nodeAt s i .kind ≡ 3 → nodeAt s i .b < typeCount s
