@@ -1,5 +1,5 @@
--- The checker's reply on counts and tables: paper 01, "Order": 1 to 8 as the file of the tables, "then 9 and 10 together, 11".
--- Assumes nothing.
+-- The checker's reply on counts and tables: 1 [0] where the tables are shorter than the counts, else, by paper 01, "Order", 3 to 8
+-- as the file of the tables, "then 9 and 10 together, 11". Assumes nothing.
 use Prim.Native.Nat.{ℕ}
 use mathlib.Core.Option.{Option}
 use Rattle.lambdamix.specs.Checker.{Refusal, annotationRefusal}
