@@ -1,6 +1,5 @@
 -- `annotation::check::check` meets its contract: its words are as many as the nodes, or as a script may have. Assumes nothing.
 use borrow.Author.Needs.{needs}
-use Prim.Native.Nat.{ℕ}
 use native.Mathlib.Omega.{arith}
 use lib.ListN.{length-replicate}
 use Rattle.lambdamix.specs.Limits.{maxNodes}
@@ -8,14 +7,14 @@ use Rattle.annotation.proofs.check.check.Statement.{statement}
 use Rattle.annotation.proofs.check.check.Tie as tie
 
 check-in-requires : tie.Need-check-in-requires
-check-in-requires c κs = omega (arith, c .before .if1 .taken, length-replicate {A = ℕ} 128 0)
+check-in-requires c κs = simp length-replicate (omega (arith, c .before .if1 .taken))
 
 returns : tie.Need-returns
 returns c = c .before .check-in .ensures
 
 check-in-requires-2 : tie.Need-check-in-requires-2
 unfolding maxNodes
-check-in-requires-2 c κs = omega (arith, length-replicate {A = ℕ} maxNodes 0)
+check-in-requires-2 c κs = simp length-replicate (omega arith)
 
 returns-2 : tie.Need-returns-2
 returns-2 c = c .before .check-in2 .ensures
