@@ -1,4 +1,4 @@
-// The checker: refusals 1 to 8 as the file of the tables, then 9 to 11.
+// The checker: refusals 1 to 8 of the tables, then 9 to 11.
 use crate::typing::annotation_refusal;
 use script::Counts;
 use script::Verdict;
