@@ -1,7 +1,7 @@
 -- The stack of binders and the context that it holds: what stays of it, what a binder adds, the inputs at its bottom, and that a name
 -- found on it has the type that the context gives. Assumes nothing.
 use Prim.Native.Nat.{ℕ, zero, suc, _+_, _-_, _/_, _%_, _≤_, _<_}
-use mathlib.Core.Path.{_≡_, refl, sym, _∙_}
+use mathlib.Core.Path.{_≡_, refl, _∙_}
 use mathlib.Core.Bool.{Bool, true, false}
 use mathlib.Core.List.{List, [], _∷_}
 use mathlib.Core.Option.{Option, some}
@@ -17,8 +17,10 @@ use Rattle.lambdamix.specs.Typing.{Context, bind, typeAt, typeAtBy, inputType, 
 use Rattle.lambdamix.specs.Checker.{typed, faulty, own, provided, varRule}
 use Rattle.script.specs.Refusals.{inputFits}
 use Rattle.annotation.specs.Answers.{pick, limit16, faultLimit, faultAnswer, typeBase, typeAnswer, typeIn, meaning, Stands, givenBy}
-use Rattle.annotation.specs.Walks.{Pair, Binds, no-binder, one-more, bound, Agree, Pushed}
+use Rattle.annotation.specs.Walks.{Pair, Binds, no-binder, one-more, bound, Pushed}
 use Rattle.script.proofs.Sound.{Sound}
+use Rattle.tables.specs.Walks.{Kept}
+use Rattle.tables.proofs.Scopes.{kept-all}
 use Rattle.annotation.proofs.TypeNumbers.{type-zero, type-one}
 
 -- ---- answers
@@ -50,17 +52,14 @@ given-stands s ok false t i l h = fault-stands s 9 i (omega arith) l
 -- ---- the stack
 
 -- binders in places that two stacks share make up one context
-pub binds-agree :
-    {s : Script} {xs ys : List ℕ} {d : ℕ} {Γ : Context} → Binds s xs d Γ → Agree d xs ys → Binds s ys d Γ
-binds-agree no-binder a = no-binder
-binds-agree (one-more {d} b p h) a =
-    one-more (binds-agree b (record { same = a .same; each = λ k m. a .each k (omega arith) })) (rw (a .each d (omega arith)) at p) h
+pub binds-kept :
+    {s : Script} {xs ys : List ℕ} {d : ℕ} {Γ : Context} → Binds s xs d Γ → Kept d xs ys → Binds s ys d Γ
+binds-kept no-binder a = no-binder
+binds-kept (one-more {d} b p h) a =
+    one-more (binds-kept b (record { same = a .same; names = λ k m. a .names k (omega arith) })) (rw (← a .names d (omega arith)) at p) h
 
-pub agree-refl : (d : ℕ) (xs : List ℕ) → Agree d xs xs
-agree-refl d xs = record { same = refl; each = λ k h. refl }
-
-pub agree-trans : {d e : ℕ} {xs ys zs : List ℕ} → Agree d xs ys → d ≤ e → Agree e ys zs → Agree d xs zs
-agree-trans a l b = record { same = a .same ∙ b .same; each = λ k h. a .each k h ∙ b .each k (omega arith) }
+pub kept-then : {d e : ℕ} {xs ys zs : List ℕ} → Kept d xs ys → d ≤ e → Kept e ys zs → Kept d xs zs
+kept-then a l b = record { same = b .same ∙ a .same; names = λ k h. b .names k (omega arith) ∙ a .names k h }
 
 -- a binder on top
 pub binds-more :
@@ -68,20 +67,20 @@ pub binds-more :
     Binds s xs d Γ → Binds s ys e (bind y (typeOf s t) Γ)
 binds-more {d} {y} {t} p l q h b =
     let (e, f) = p .top l in
-    rw (e, add-one d) (one-more {y = y} {t = t} (binds-agree b (p .kept)) (rw f q) h)
+    rw (e, add-one d) (one-more {y = y} {t = t} (binds-kept b (p .kept)) (rw f q) h)
 
 -- pushing a binder, with room and without
 pub on-top : (w d : ℕ) (xs : List ℕ) → d < length xs → Pushed w d (d + 1) xs (set xs d w)
 on-top w d xs l =
     record {
-      kept = record { same = simp length-set; each = λ k h. sym (getD-set-other xs d k w 0 (omega arith)) };
+      kept = record { same = length-set xs d w; names = λ k h. getD-set-other xs d k w 0 (omega arith) };
       least = omega arith;
       top = λ _. (refl, getD-set-same xs d w 0 l);
     }
 
 pub no-room : (w d : ℕ) (xs : List ℕ) → length xs ≤ d → Pushed w d d xs xs
 no-room w d xs l =
-    record { kept = agree-refl d xs; least = omega arith; top = λ h. let z : ⊥ = omega arith in absurd z }
+    record { kept = kept-all d xs; least = omega arith; top = λ h. let z : ⊥ = omega arith in absurd z }
 
 -- ---- the inputs
 

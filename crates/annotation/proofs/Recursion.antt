@@ -13,13 +13,15 @@ use Rattle.lambdamix.specs.Types.{typeOf, typeCount}
 use Rattle.lambdamix.specs.Typing.{Context, bind}
 use Rattle.lambdamix.specs.Checker.{check}
 use Rattle.script.specs.Words.{wordKind, wordA, wordB, wordC}
+use Rattle.tables.specs.Walks.{Kept}
 use Rattle.tables.proofs.TreeForms.{All}
+use Rattle.tables.proofs.Scopes.{kept-all}
 use Rattle.annotation.specs.Answers.{pick, typeAnswer, Stands}
-use Rattle.annotation.specs.Walks.{Lent, Pair, Binds, bound, Agree, Pushed, Answers, ChildAnswers, OneChild, lifts, fixes, fixes-dynamic, TwoChildren, applies, operates, applies-dynamic, operates-dynamic, ThreeChildren, chooses, chooses-dynamic, BindsName, abstracts, abstracts-dynamic, WordOf, Stand, none-left, and-then, Ruled, BinderRuled}
+use Rattle.annotation.specs.Walks.{Lent, Pair, Binds, bound, Pushed, Answers, ChildAnswers, OneChild, lifts, fixes, fixes-dynamic, TwoChildren, applies, operates, applies-dynamic, operates-dynamic, ThreeChildren, chooses, chooses-dynamic, BindsName, abstracts, abstracts-dynamic, WordOf, Stand, none-left, and-then, Ruled, BinderRuled}
 use Rattle.script.proofs.Sound.{sound}
 use Rattle.annotation.proofs.TypeNumbers.{type-zero}
 use Rattle.annotation.proofs.Trees.{Below, kind-known, below-parent, named-type, tree-node, tree-height, node-kind, node-field, node-children}
-use Rattle.annotation.proofs.Contexts.{type-stands, binds-agree, agree-refl, agree-trans, binds-more, bound-stands}
+use Rattle.annotation.proofs.Contexts.{type-stands, binds-kept, kept-then, binds-more, bound-stands}
 
 -- ---- the children of a node, one after the other
 
@@ -31,9 +33,9 @@ pub data Walk (words ts : List ℕ) (d i : ℕ) : List ℕ → List ℕ → List
       Walk words ts d i between after ms es → Walk words ts d i before after (m ∷ ms) (e ∷ es)
 
 module _ {words ts : List ℕ} {d i : ℕ} where
-  walk-kept : {before after ms es : List ℕ} → Walk words ts d i before after ms es → Agree d before after
-  walk-kept no-child = agree-refl d _
-  walk-kept (next-child a w) = agree-trans (a .kept) (omega arith) (walk-kept w)
+  walk-kept : {before after ms es : List ℕ} → Walk words ts d i before after ms es → Kept d before after
+  walk-kept no-child = kept-all d _
+  walk-kept (next-child a w) = kept-then (a .kept) (omega arith) (walk-kept w)
 
   walk-stands :
       {s : Script} {Γ : Context} → Lent s words ts → i < nodeCount s → {before after ms es : List ℕ} →
@@ -43,7 +45,7 @@ module _ {words ts : List ℕ} {d i : ℕ} where
   walk-stands l h no-child b u r = none-left
   walk-stands {s} {Γ} l h (next-child a w) b u r =
       and-then (a .reply (u .0) .reply s Γ l b (omega (arith, u .0)) (omega arith))
-      (walk-stands l h w (binds-agree b (a .kept)) (u .1) (omega (arith, a .kept .same)))
+      (walk-stands l h w (binds-kept b (a .kept)) (u .1) (omega (arith, a .kept .same)))
 
   -- Theorem: the answer of a node whose children are answered.
   pub at-node :
@@ -207,7 +209,7 @@ module _ {words ts before pushed after : List ℕ} {d inner i w g p v m e : ℕ}
       {k r : ℕ} → BindsName (wordKind w) → p ≡ pick (eqb (wordKind w) 3) (wordB w) 1 → k ≡ wordKind w → BinderRuled ts k p i e r →
       Answers words ts before after d i r
   at-binder n pe q rule = record {
-    kept = agree-trans (push .kept) (push .least) (a .kept);
+    kept = kept-then (push .kept) (push .least) (a .kept);
     reply = λ s Γ l b h room. binder-stands s Γ l b h room n pe q (rw q n) rule;
   }
 
@@ -237,7 +239,7 @@ module _ {words ts stack : List ℕ} {d i w : ℕ} (o : w ≡ getD words i 0) wh
       {x r : ℕ} → wordKind w ≡ 1 → x ≡ wordA w → (d ≤ length stack → r ≡ bound stack x i d) → Answers words ts stack stack d i r
   unfolding rowOf rows build nodeAt check maxNodes
   at-variable q f g = record {
-    kept = agree-refl d stack;
+    kept = kept-all d stack;
     reply = λ s Γ l b h room.
         let ok = sound s (l .passes) in
         let (x, _, _) = node-field l h o (λ z. omega arith) in
@@ -251,7 +253,7 @@ module _ {words ts stack : List ℕ} {d i w : ℕ} (o : w ≡ getD words i 0) wh
       Answers words ts stack stack d i r
   unfolding rowOf rows build nodeAt check typeCount
   at-constant {k} q a b c e f g = record {
-    kept = agree-refl d stack;
+    kept = kept-all d stack;
     reply = λ s Γ l _ h room.
         let ok = sound s (l .passes) in
         let n = node-kind l h o in
@@ -267,4 +269,4 @@ module _ {words ts before after : List ℕ} {d i m r : ℕ} where
   at-child a = record { kept = a .kept; reply = λ _. a }
 
 pub no-smaller : {words ts stack : List ℕ} {d i m r : ℕ} → i ≤ m → ChildAnswers words ts stack stack d i m r
-no-smaller l = record { kept = agree-refl _ _; reply = λ h. let z : ⊥ = omega arith in absurd z }
+no-smaller l = record { kept = kept-all _ _; reply = λ h. let z : ⊥ = omega arith in absurd z }

@@ -20,6 +20,7 @@ use Rattle.script.specs.Tables.{rowNode}
 use Rattle.script.specs.Columns.{tablesOf}
 use Rattle.script.specs.Replies.{refusalOf}
 use Rattle.script.specs.Words.{wordKind, Packed}
+use Rattle.tables.specs.Walks.{Kept}
 use Rattle.annotation.specs.Answers.{scriptOf, Passes, pick, highHalf, lowHalf, typeAnswer, faultAnswer, Stands}
 
 -- two numbers of 16 bits in a word of 32
@@ -70,28 +71,23 @@ stackPlaces = maxInputs + maxHeight
 pub record Bottom (n : ℕ) (types binders : List ℕ) : Type 0 where
   pub each : (j : ℕ) → j < n → Pair (getD binders (n - 1 - j) 0) j (getD types j 0)
 
--- two stacks of one length agree in their first d places
-pub record Agree (d : ℕ) (before after : List ℕ) : Type 0 where
-  pub same : length before ≡ length after
-  pub each : (k : ℕ) → k < d → getD before k 0 ≡ getD after k 0
-
 -- a binder on a stack d deep, which is e deep then
 pub record Pushed (w d e : ℕ) (before after : List ℕ) : Type 0 where
-  pub kept : Agree d before after
+  pub kept : Kept d before after
   pub least : d ≤ e
   pub top : d < length before → (e ≡ d + 1) × (getD after d 0 ≡ w)
 
 -- What the walk promises of node i under d binders, on a stack with room for as many more as the tree of i is high: its answer
 -- stands for what `check` gives, and the binders stay.
 pub record Answers (words types before after : List ℕ) (d i r : ℕ) : Type 0 where
-  pub kept : Agree d before after
+  pub kept : Kept d before after
   pub reply :
       (s : Script) (Γ : Context) → Lent s words types → Binds s before d Γ → i < nodeCount s →
       d + height (tree s i) ≤ length before → Stands s r (check s Γ (tree s i))
 
 -- the same of a child m of node i, if its number is smaller
 pub record ChildAnswers (words types before after : List ℕ) (d i m r : ℕ) : Type 0 where
-  pub kept : Agree d before after
+  pub kept : Kept d before after
   pub reply : m < i → Answers words types before after d m r
 
 -- the kinds of one, two and three children that bind nothing, and those that bind
