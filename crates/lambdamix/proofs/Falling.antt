@@ -1,10 +1,10 @@
 -- Recursion on falling numbers unfolds one step at a time: the amount that bounds it never shows. Assumes nothing.
-use Prim.Native.Nat.{ℕ, zero, suc, _<_}
+use Prim.Native.Nat.{ℕ, zero, suc, _≤_, _<_}
 use mathlib.Core.Path.{_≡_, refl, ap, fun-ext}
 use mathlib.Core.Bool.{Bool, true, false}
 use native.Mathlib.Omega.{arith}
 use lib.Dec.{ltb}
-use borrow.Author.Tests.{ltb-true, lt-ltb}
+use borrow.Author.Tests.{ltb-true, lt-ltb, le-ltb}
 use Rattle.lambdamix.specs.Falling.{guarded, below, fallingBy, falling}
 
 -- below n the answers of two functions are what counts
@@ -21,6 +21,11 @@ below-same n d f g h = fun-ext (λ m. guarded-same (ltb m n) d f g m (λ e. h m 
 pub below-at : {A : Type 0} (n : ℕ) (d : A) (f : ℕ → A) (m : ℕ) → m < n → below n d f m ≡ f m
 unfolding below guarded
 below-at n d f m h = rw (lt-ltb m n h)
+
+-- a number that is not below gets the default
+pub below-out : {A : Type 0} (n : ℕ) (d : A) (f : ℕ → A) (m : ℕ) → n ≤ m → below n d f m ≡ d
+unfolding below guarded
+below-out n d f m h = rw (le-ltb m n h)
 
 enough :
     {A : Type 0} (d : A) (f : (ℕ → A) → ℕ → A) (g h n : ℕ) → n < g → n < h → fallingBy d f g n ≡ fallingBy d f h n

@@ -3,13 +3,12 @@ use Prim.Native.Nat.{ℕ, _≤_, _<_}
 use mathlib.Core.Path.{_≡_}
 use mathlib.Core.List.{List}
 use lib.IntN.{ℤ}
-use borrow.Author.Tests.{le-ltb}
 use Rattle.lambdamix.specs.declared.Use.{Use}
-use Rattle.lambdamix.specs.Falling.{guarded, below}
+use Rattle.lambdamix.specs.Falling.{below}
 use Rattle.lambdamix.specs.Script.{Node}
 use Rattle.lambdamix.specs.Text.{digits}
 use Rattle.script.specs.Kinds.{useOf}
-use Rattle.lambdamix.proofs.Falling.{falling-step, below-at}
+use Rattle.lambdamix.proofs.Falling.{falling-step, below-at, below-out}
 use Rattle.printer.specs.declared.Word.{Word}
 use Rattle.printer.specs.Places.{Placed}
 use Rattle.printer.specs.Nodes.{wordOf, wordText, framed, fieldText, nodeText, nodesText}
@@ -21,8 +20,7 @@ module _ (n : ℕ) (d : List ℕ) (f : ℕ → List ℕ) (m : ℕ) {at e : ℕ} 
   child-placed h p = rw (below-at n d f m h) p
 
   pub no-child-placed : n ≤ m → Placed d at x y e → Placed (below n d f m) at x y e
-  unfolding below guarded
-  no-child-placed h p = rw (le-ltb m n h) p
+  no-child-placed h p = rw (below-out n d f m h) p
 
 -- one step
 pub node-step :

@@ -11,14 +11,13 @@ use native.Mathlib.Omega.{arith}
 use lib.IntN.{pos}
 use lib.ListN.{length, getD, List·getD-eq-default}
 use lib.Dec.{leb, leb·suc-zero, leb·suc-suc}
-use borrow.Author.Tests.{le-leb, le-ltb}
+use borrow.Author.Tests.{le-leb}
 use Rattle.lambdamix.specs.declared.Operator.the-variants.{Add}
 use Rattle.lambdamix.specs.Limits.{maxNodes, maxHeight}
 use Rattle.lambdamix.specs.Arithmetic.{operators}
-use Rattle.lambdamix.specs.Falling.{below, guarded}
 use Rattle.lambdamix.specs.Term.{applying, fixing, choosing, operating, operatorOf}
 use Rattle.lambdamix.specs.Code.{Code, Codes, lit, ref, fn, form, nilC, consC, operatorNumber}
-use Rattle.lambdamix.proofs.Falling.{falling-step, below-at}
+use Rattle.lambdamix.proofs.Falling.{falling-step, below-at, below-out}
 use Rattle.script.specs.Bytes.{signedBy, signed32}
 use Rattle.script.specs.Words.{wordValue, wordKind, wordA, wordB, wordC}
 use Rattle.residual.specs.Cells.{constant, sortOf, two, twoPieces, threePieces, codeBy, codeStep, codeAt, codeBelow, spendBy, spendLeaf, spend, spendAll, spendOne, pieces, roomOf, Spends, SpendsUnder}
@@ -38,8 +37,8 @@ unfolding codeBelow
 below-there xs p q h = below-at p (lit (pos 0)) (codeAt xs) q h
 
 pub below-none : (xs : List ℕ) (p q : ℕ) → p ≤ q → codeBelow xs p q ≡ lit (pos 0)
-unfolding codeBelow below guarded
-below-none xs p q h = rw (le-ltb q p h)
+unfolding codeBelow
+below-none xs p q h = below-out p (lit (pos 0)) (codeAt xs) q h
 
 -- any other kind than those of code with fields
 other-kind :
