@@ -44,7 +44,7 @@ mutual
 mutual
   unfolding size nodesFrom
 
-  nodes-size : (c : Code) (k : ℕ) → length (nodesFrom k c) ≡ size c
+  pub nodes-size : (c : Code) (k : ℕ) → length (nodesFrom k c) ≡ size c
   nodes-size (lit z) k = refl
   nodes-size (ref x) k = refl
   nodes-size (fn x c) k = simp length-append (omega (arith, nodes-size c k))

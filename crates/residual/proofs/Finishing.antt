@@ -3,7 +3,7 @@
 use Prim.Native.Nat.{ℕ, zero, suc, _+_, _*_, _-_, _≤_, _<_}
 use mathlib.Core.Path.{_≡_, refl, sym, ap, _∙_, subst}
 use mathlib.Core.Bool.{true, false}
-use mathlib.Core.List.{List, [], _++_}
+use mathlib.Core.List.{List, _++_}
 use mathlib.Core.Option.{some}
 use native.Mathlib.Omega.{arith}
 use lib.ListN.{length}
@@ -11,11 +11,11 @@ use lib.Dec.{leb}
 use borrow.Author.Tests.{leb-true, le-leb, lt-leb}
 use Rattle.lambdamix.specs.Limits.{maxNodes, maxHeight}
 use Rattle.lambdamix.specs.Text.{ascii}
-use Rattle.lambdamix.specs.Script.{Script, nodeCount}
+use Rattle.lambdamix.specs.Script.{Script}
 use Rattle.lambdamix.specs.Code.{Code, size, codeHeight, fits, top, nodesFrom, written}
 use Rattle.lambdamix.specs.Specializing.{finished}
 use Rattle.lambdamix.proofs.Tests.{and-both}
-use Rattle.lambdamix.proofs.WrittenTree.{top-last, written-size}
+use Rattle.lambdamix.proofs.WrittenTree.{top-last, nodes-size}
 use Rattle.script.specs.Bytes.{bytes16}
 use Rattle.script.specs.File.{headBytes, inputBytes, nodeBytes, records, numbered, fileBytes, fileLength, nodeOffset}
 use Rattle.file.specs.Written.{Put, headRow}
@@ -32,16 +32,12 @@ use Rattle.residual.proofs.Spending.{Spent, left, spent, spend-fits, sp
 
 -- ---- counts
 
-nodes-count : (c : Code) → length (nodesFrom 0 c) ≡ size c
-unfolding nodeCount written
-nodes-count c = written-size (record { types = []; inputs = []; nodes = [] }) c
-
 top-count : {n r : ℕ} (c : Code) → n ≡ size c → r ≡ top 0 c → r + 1 ≡ n
-top-count c e f = omega (arith, top-last c 0, nodes-count c)
+top-count c e f = omega (arith, top-last c 0, nodes-size c 0)
 
 -- the last node's number is below the count of nodes
 pub top-low : {n : ℕ} (c : Code) → n ≡ size c → n ≤ maxNodes → top 0 c < maxNodes
-top-low c e h = omega (arith, top-last c 0, nodes-count c)
+top-low c e h = omega (arith, top-last c 0, nodes-size c 0)
 
 pub fits-small : {n : ℕ} (c : Code) → n ≡ size c → fits c ≡ true → n ≤ maxNodes
 unfolding fits
@@ -79,12 +75,12 @@ module _ (s : Script) (g : ℕ → ℕ) (count : ℕ) (i : s .inputs ≡ numbere
 
   pub file-size : length (fileBytes (written s c)) ≡ fileLength 0 count n
   unfolding written fileLength nodeOffset
-  file-size = file-length (written s c) ∙ omega (arith, inputs-count, nodes-count c)
+  file-size = file-length (written s c) ∙ omega (arith, inputs-count, nodes-size c 0)
 
   the-head : headRow 0 count n ≡ headBytes (written s c)
   unfolding headRow headBytes written
   the-head =
-      λ y. ascii "HD" ++ (bytes16 0 ++ (bytes16 (sym inputs-count y) ++ bytes16 ((e ∙ sym (nodes-count c)) y)))
+      λ y. ascii "HD" ++ (bytes16 0 ++ (bytes16 (sym inputs-count y) ++ bytes16 ((e ∙ sym (nodes-size c 0)) y)))
 
   -- head, inputs and nodes, each put behind the other, are the file
   pub put-written :
