@@ -69,7 +69,7 @@ mutual
   after-last (consC c cs) k = simp length-append (omega (arith, top-last c k, after-last cs (suc (top k c))))
 
 -- the number that an operator is written as stands for it
-operator-read : (o : Operator) → operatorOf (operatorNumber o) ≡ o
+pub operator-read : (o : Operator) → operatorOf (operatorNumber o) ≡ o
 unfolding operatorOf operatorNumber
 operator-read Add = refl
 operator-read Subtract = refl
