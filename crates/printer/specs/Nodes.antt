@@ -1,5 +1,5 @@
 -- The text of a node, for all kinds together: brackets and a word by one table of thirteen rows, then the fields by the table
--- of their uses. That this is the text of the node's term is `listing-text` of proofs/Trees.antt. Assumes nothing.
+-- of their uses. That this is the text of the node's term is `tree-text` of proofs/Trees.antt. Assumes nothing.
 use Prim.Native.Nat.{ℕ, _-_}
 use mathlib.Core.List.{List, [], _∷_, _++_}
 use lib.IntN.{ℤ}
