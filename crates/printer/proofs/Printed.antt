@@ -1,7 +1,7 @@
 -- From the walk's promise to the listing's: the text that it puts is the script's listing, and it is put whole or not at all.
 -- Assumes nothing.
 use Prim.Native.Nat.{ℕ, _+_, _≤_, _<_, min}
-use mathlib.Core.Path.{_≡_, refl, sym, ap, ap₂, _∙_}
+use mathlib.Core.Path.{_≡_, refl, ap, ap₂, _∙_}
 use mathlib.Core.Bool.{true, false}
 use mathlib.Core.List.{List, [], _∷_, _++_}
 use mathlib.Core.Option.{none}
@@ -26,6 +26,7 @@ use Rattle.script.specs.Tables.{Tables, rowNode, rowInput, tablesScript, tables
 use Rattle.script.proofs.RefusalLaws.{neither}
 use Rattle.script.proofs.Numbered.{length-numbered, row-at}
 use Rattle.script.proofs.Sound.{sound}
+use Rattle.script.proofs.Verdicts.{told-none}
 use Rattle.printer.specs.declared.Listing.the-variants.{Listed, Refused}
 use Rattle.printer.specs.Nodes.{nodesText, wholeText}
 use Rattle.printer.specs.Answers.{roomRefusal, listed, listedOutput, tablesText, listRefusal, Puts, Lists, ListsTables}
@@ -111,8 +112,8 @@ module _ {n : Counts} {v : Verdict} (x : Tables) (before : List ℕ) (told : ref
   pub lists-passed :
       {after : List ℕ} {r : Listing} → v ≡ Verdict.Passed → Lists n (x .kinds) (x .a) (x .b) (x .c) (x .values) before after r →
       ListsTables n x before after r
-  unfolding listRefusal orElse refusalOf
+  unfolding listRefusal orElse
   lists-passed q l =
-      let e : tablesRefusal (n .types) (n .inputs) (n .nodes) x ≡ none = sym told ∙ ap refusalOf q in
+      let e = told-none told q in
       let p = l .lists (x .parameters) (x .results) (x .inputs) e in
       record { reply = rw e (p .reply); output = rw e (p .output) }
