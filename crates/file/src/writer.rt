@@ -1,6 +1,7 @@
 // The writer of script files. A part is put at a place of the output; past the end nothing is put, of a node nothing at all.
 use script::Counts;
 use script::Refusal;
+use script::TypeNumber;
 use script::Verdict;
 use script::Writing;
 use script::column;
@@ -48,22 +49,22 @@ pub fn head_at(out: &mut [u8], at: usize, n: Counts)
     }
 }
 
-fn type_at(out: &mut [u8], at: usize, parameter: u16, result: u16)
-    ensures { λ r. ⌜ Put (now (out .entry)) at (typeBytes (record { parameter = parameter; result = result })) (now (out .exit)) ⌝ }
+fn type_at(out: &mut [u8], at: usize, parameter: TypeNumber, result: TypeNumber)
+    ensures { λ r. ⌜ Put (now (out .entry)) at (typeBytes (record { parameter = parameter .0; result = result .0 })) (now (out .exit)) ⌝ }
 {
     if at < out.len() {
         pair_at(out, at, b'T', b'Y');
-        word_at(out, at + 2, parameter);
-        word_at(out, at + 4, result);
+        word_at(out, at + 2, parameter.0);
+        word_at(out, at + 4, result.0);
     }
 }
 
-fn input_at(out: &mut [u8], at: usize, input: u16)
-    ensures { λ r. ⌜ Put (now (out .entry)) at (inputBytes input) (now (out .exit)) ⌝ }
+fn input_at(out: &mut [u8], at: usize, input: TypeNumber)
+    ensures { λ r. ⌜ Put (now (out .entry)) at (inputBytes (input .0)) (now (out .exit)) ⌝ }
 {
     if at < out.len() {
         pair_at(out, at, b'I', b'N');
-        word_at(out, at + 2, input);
+        word_at(out, at + 2, input.0);
     }
 }
 
@@ -116,8 +117,8 @@ fn types_at(out: &mut [u8], n: Counts, parameters: &[u16], results: &[u16])
     let count = n.types as usize;
     let mut j: usize = 0;
     while j < count {
-        let parameter = column::at16(parameters, j);
-        let result = column::at16(results, j);
+        let parameter = TypeNumber(column::at16(parameters, j));
+        let result = TypeNumber(column::at16(results, j));
         type_at(out, 8 + 6 * j, parameter, result);
         j += 1;
     }
@@ -130,7 +131,7 @@ pub fn inputs_at(out: &mut [u8], n: Counts, inputs: &[u16])
     let count = n.inputs as usize;
     let mut j: usize = 0;
     while j < count {
-        let input = column::at16(inputs, j);
+        let input = TypeNumber(column::at16(inputs, j));
         input_at(out, first + 4 * j, input);
         j += 1;
     }

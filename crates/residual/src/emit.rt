@@ -7,6 +7,7 @@ use crate::limits::MAX_NODES;
 use crate::size;
 use file::writer;
 use script::Counts;
+use script::NodeNumber;
 use script::Refusal;
 use script::place::file_size;
 use script::place::node_offset;
@@ -31,21 +32,22 @@ ghost use Rattle.residual.specs.Answers.{farthest, Emits, EmitsOver, two
 const ALL_NODES: u16 = MAX_NODES + 1;
 
 // One node as number k, where node 0 stands at base.
-fn emit_node(out: &mut [u8], base: u32, k: u16, kind: u8, a: u16, b: u16, c: u16, z: i32)
+fn emit_node(out: &mut [u8], base: u32, k: NodeNumber, kind: u8, a: u16, b: u16, c: u16, z: i32)
     requires { ⌜ base ≤ farthest ⌝ }
-    ensures { λ r. ⌜ PutWhole (now (out .entry)) (base + 13 * k) (nodeBytes (node kind a b c z)) (now (out .exit)) ⌝ }
+    ensures { λ r. ⌜ PutWhole (now (out .entry)) (base + 13 * k .0) (nodeBytes (node kind a b c z)) (now (out .exit)) ⌝ }
 {
-    writer::node_at(out, base + 13 * (k as u32), kind, a, b, c, z)
+    writer::node_at(out, base + 13 * (k.0 as u32), kind, a, b, c, z)
 }
 
 // A constant node and its lift; the answer is the number of the last node, here and below.
-fn emit_constant(out: &mut [u8], base: u32, k: u16, z: i32) -> u16
-    requires { ⌜ (base ≤ farthest) × (k + 1 < maxNodes) ⌝ }
-    ensures { λ r. ⌜ Emits (lit z) base k (now (out .entry)) (now (out .exit)) r ⌝ }
+fn emit_constant(out: &mut [u8], base: u32, k: NodeNumber, z: i32) -> u16
+    requires { ⌜ (base ≤ farthest) × (k .0 + 1 < maxNodes) ⌝ }
+    ensures { λ r. ⌜ Emits (lit z) base (k .0) (now (out .entry)) (now (out .exit)) r ⌝ }
 {
     emit_node(out, base, k, 0, 0, 0, 0, z);
-    emit_node(out, base, k + 1, 2, k, 0, 0, 0);
-    k + 1
+    let next = k.0 + 1;
+    emit_node(out, base, NodeNumber(next), 2, k.0, 0, 0, 0);
+    next
 }
 
 // The code of the cell x at p as nodes from number k on.
@@ -55,22 +57,22 @@ fn emit(codes: &[u64], p: u16, x: u64, out: &mut [u8], base: u32, k: u16) -> u16
 {
     match word::kind(x) {
         1 => {
-            emit_node(out, base, k, 1, word::field_a(x), 0, 0, 0);
+            emit_node(out, base, NodeNumber(k), 1, word::field_a(x), 0, 0, 0);
             k
         }
         8 => {
             let n = emit_piece(codes, p, word::field_c(x), out, base, k);
-            emit_node(out, base, n + 1, 8, word::field_a(x), 0, n, 0);
+            emit_node(out, base, NodeNumber(n + 1), 8, word::field_a(x), 0, n, 0);
             n + 1
         }
         9 | 12 => emit_two(codes, p, x, out, base, k),
         10 => {
             let n = emit_piece(codes, p, word::field_a(x), out, base, k);
-            emit_node(out, base, n + 1, 10, n, 0, 0, 0);
+            emit_node(out, base, NodeNumber(n + 1), 10, n, 0, 0, 0);
             n + 1
         }
         11 => emit_three(codes, p, x, out, base, k),
-        _ => emit_constant(out, base, k, word::value(x)),
+        _ => emit_constant(out, base, NodeNumber(k), word::value(x)),
     }
 }
 
@@ -83,7 +85,7 @@ fn emit_two(codes: &[u64], p: u16, x: u64, out: &mut [u8], base: u32, k: u16) ->
     let b = emit_piece(codes, p, word::field_b(x), out, base, a + 1);
     let kind = word::kind(x);
     let c = code::last_field(kind, word::field_c(x));
-    emit_node(out, base, b + 1, kind as u8, a, b, c, 0);
+    emit_node(out, base, NodeNumber(b + 1), kind as u8, a, b, c, 0);
     b + 1
 }
 
@@ -95,7 +97,7 @@ fn emit_three(codes: &[u64], p: u16, x: u64, out: &mut [u8], base: u32, k: u16) 
     let a = emit_piece(codes, p, word::field_a(x), out, base, k);
     let b = emit_piece(codes, p, word::field_b(x), out, base, a + 1);
     let c = emit_piece(codes, p, word::field_c(x), out, base, b + 1);
-    emit_node(out, base, c + 1, 11, a, b, c, 0);
+    emit_node(out, base, NodeNumber(c + 1), 11, a, b, c, 0);
     c + 1
 }
 
@@ -105,11 +107,11 @@ fn emit_piece(codes: &[u64], p: u16, q: u16, out: &mut [u8], base: u32, k: u16) 
     ensures { λ r. ⌜ Emits (codeBelow (now (codes .entry)) p q) base k (now (out .entry)) (now (out .exit)) r ⌝ }
 {
     if p <= q {
-        return emit_constant(out, base, k, 0);
+        return emit_constant(out, base, NodeNumber(k), 0);
     }
     let x = codes[q as usize];
     if word::kind(x) == 1 {
-        emit_node(out, base, k, 1, word::field_a(x), 0, 0, 0);
+        emit_node(out, base, NodeNumber(k), 1, word::field_a(x), 0, 0, 0);
         return k;
     }
     emit(codes, q, x, out, base, k)
@@ -122,7 +124,7 @@ fn emit_root(codes: &[u64], p: u16, out: &mut [u8], base: u32) -> u16
 {
     let i = p as usize;
     if codes.len() <= i {
-        return emit_constant(out, base, 0, 0);
+        return emit_constant(out, base, NodeNumber(0), 0);
     }
     emit(codes, p, codes[i], out, base, 0)
 }

@@ -3,6 +3,7 @@ use crate::records::record_refusal;
 use lambdamix::Use;
 use script::Counts;
 use script::Found;
+use script::NodeNumber;
 use script::Refusal;
 use script::Verdict;
 use script::column::at16;
@@ -31,16 +32,15 @@ fn wide(x: u16) -> usize
 }
 
 // Whether a field of a node holds what its use asks for.
-fn field_right(types: u16, inputs: u16, node: usize, u: Use, f: u16) -> bool
-    ensures { λ r. ⌜ r ≡ fieldRight types inputs node u f ⌝ }
+fn field_right(types: u16, inputs: u16, node: NodeNumber, u: Use, f: u16) -> bool
+    ensures { λ r. ⌜ r ≡ fieldRight types inputs (node .0) u f ⌝ }
 {
-    let x = f as usize;
     match u {
         Use::Nothing => f == 0,
         Use::Name => true,
         Use::Binder => inputs <= f,
-        Use::Child => x < node,
-        Use::ParameterType => x < 2 + (types as usize),
+        Use::Child => f < node.0,
+        Use::ParameterType => (f as usize) < 2 + (types as usize),
         Use::Operation => f < 6,
     }
 }
@@ -56,8 +56,8 @@ fn row_of(kind: u8) -> Row
 }
 
 // Whether the fields of a node hold what the row asks for.
-fn fields_right(types: u16, inputs: u16, node: usize, row: Row, a: u16, b: u16, c: u16) -> bool
-    ensures { λ r. ⌜ r ≡ fieldsRight types inputs node (row .0 ∷ row .1 ∷ row .2 ∷ []) (a ∷ b ∷ c ∷ []) ⌝ }
+fn fields_right(types: u16, inputs: u16, node: NodeNumber, row: Row, a: u16, b: u16, c: u16) -> bool
+    ensures { λ r. ⌜ r ≡ fieldsRight types inputs (node .0) (row .0 ∷ row .1 ∷ row .2 ∷ []) (a ∷ b ∷ c ∷ []) ⌝ }
 {
     let u = row.0;
     let v = row.1;
@@ -74,14 +74,14 @@ fn fields_right(types: u16, inputs: u16, node: usize, row: Row, a: u16, b: u16, 
 fn step_right(
     types: u16,
     inputs: u16,
-    node: usize,
+    node: NodeNumber,
     row: Row,
     a: u16,
     b: u16,
     c: u16,
     value: i32,
 ) -> bool
-    ensures { λ r. ⌜ r ≡ (eqZ value (pos 0) && fieldsRight types inputs node (row .0 ∷ row .1 ∷ row .2 ∷ []) (a ∷ b ∷ c ∷ [])) ⌝ }
+    ensures { λ r. ⌜ r ≡ (eqZ value (pos 0) && fieldsRight types inputs (node .0) (row .0 ∷ row .1 ∷ row .2 ∷ []) (a ∷ b ∷ c ∷ [])) ⌝ }
 {
     if value == 0 {
         fields_right(types, inputs, node, row, a, b, c)
@@ -94,7 +94,7 @@ fn step_right(
 fn static_right(
     types: u16,
     inputs: u16,
-    node: usize,
+    node: NodeNumber,
     kind: u8,
     a: u16,
     b: u16,
@@ -102,7 +102,7 @@ fn static_right(
     value: i32,
 ) -> bool
     requires { ⌜ (2 ≤ kind) × (kind < 8) ⌝ }
-    ensures { λ r. ⌜ r ≡ nodeFits types inputs (λ j. nodeOf kind a b c value) node ⌝ }
+    ensures { λ r. ⌜ r ≡ nodeFits types inputs (λ j. nodeOf kind a b c value) (node .0) ⌝ }
 {
     match kind {
         2 => step_right(types, inputs, node, row_of(2), a, b, c, value),
@@ -118,7 +118,7 @@ fn static_right(
 fn dynamic_right(
     types: u16,
     inputs: u16,
-    node: usize,
+    node: NodeNumber,
     kind: u8,
     a: u16,
     b: u16,
@@ -126,7 +126,7 @@ fn dynamic_right(
     value: i32,
 ) -> bool
     requires { ⌜ (8 ≤ kind) × (kind < 13) ⌝ }
-    ensures { λ r. ⌜ r ≡ nodeFits types inputs (λ j. nodeOf kind a b c value) node ⌝ }
+    ensures { λ r. ⌜ r ≡ nodeFits types inputs (λ j. nodeOf kind a b c value) (node .0) ⌝ }
 {
     match kind {
         8 => step_right(types, inputs, node, row_of(8), a, b, c, value),
@@ -141,14 +141,14 @@ fn dynamic_right(
 fn node_right(
     types: u16,
     inputs: u16,
-    node: usize,
+    node: NodeNumber,
     kind: u8,
     a: u16,
     b: u16,
     c: u16,
     value: i32,
 ) -> bool
-    ensures { λ r. ⌜ r ≡ nodeFits types inputs (λ j. nodeOf kind a b c value) node ⌝ }
+    ensures { λ r. ⌜ r ≡ nodeFits types inputs (λ j. nodeOf kind a b c value) (node .0) ⌝ }
 {
     match kind {
         0 => fields_right(types, inputs, node, row_of(0), a, b, c),
@@ -242,7 +242,7 @@ fn first_bad_input(inputs: u16, input_types: &[u16]) -> Found
 fn first_bad_node(
     types: u16,
     inputs: u16,
-    nodes: usize,
+    nodes: u16,
     kinds: &[u8],
     a: &[u16],
     b: &[u16],
@@ -255,18 +255,19 @@ fn first_bad_node(
     ensures found { λ r. ⌜ foundAt r ≡ firstFailing (nodeFits types inputs (nodesIn (now (kinds .entry)) (now (a .entry)) (now (b .entry)) (now (c .entry)) (now (values .entry)))) 0 nodes ⌝ }
     ensures packed { λ r. ⌜ PackedNodes r nodes (nodesIn (now (kinds .entry)) (now (a .entry)) (now (b .entry)) (now (c .entry)) (now (values .entry))) (now (words .exit)) ⌝ }
 {
-    let mut j = 0;
+    let mut j: u16 = 0;
     while j < nodes {
-        let kind = kinds[j];
-        let x = a[j];
-        let y = b[j];
-        let z = c[j];
-        let value = values[j];
-        words[j] = pack_node(kind, x, y, z, value);
-        if node_right(types, inputs, j, kind, x, y, z, value) {
+        let at = j as usize;
+        let kind = kinds[at];
+        let x = a[at];
+        let y = b[at];
+        let z = c[at];
+        let value = values[at];
+        words[at] = pack_node(kind, x, y, z, value);
+        if node_right(types, inputs, NodeNumber(j), kind, x, y, z, value) {
             j += 1;
         } else {
-            return Found::At(j);
+            return Found::At(at);
         }
     }
     Found::Nowhere
@@ -291,10 +292,9 @@ pub(crate) fn content_refusal(
     ensures packed { λ r. ⌜ PackedTables r (n .nodes) (tablesOf (now (parameters .entry)) (now (results .entry)) (now («input_types» .entry)) (now (kinds .entry)) (now (a .entry)) (now (b .entry)) (now (c .entry)) (now (values .entry))) (now (words .entry)) (now (words .exit)) ⌝ }
 {
     if counts_right(n) {
-        let nodes = n.nodes as usize;
         let bad_type = first_bad_type(n.types, parameters, results);
         let bad_input = first_bad_input(n.inputs, input_types);
-        let bad_node = first_bad_node(n.types, n.inputs, nodes, kinds, a, b, c, values, words);
+        let bad_node = first_bad_node(n.types, n.inputs, n.nodes, kinds, a, b, c, values, words);
         record_refusal(n.types, n.inputs, bad_type, bad_input, bad_node)
     } else {
         Verdict::Refused(Refusal {

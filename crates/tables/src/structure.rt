@@ -1,9 +1,12 @@
 // Refusals 6, 7 and 8 of nodes in words: each node but the root is used once, no node is higher than the limit, and each variable
 // has a binder or is an input. The walks go down from the root, from a node to its children, whose numbers are below. They
 // pass integers, a reference to an array and a reference to a slice reference, and answer in one integer, which all travel in
-// registers (a slice reference itself goes through memory); so a node's number and a name are plain u16 in this file.
+// registers (a slice reference and a tuple struct go through memory); so a walk hands on a node's number as a plain u16, and its
+// helpers, which the compiler inlines, take tuple structs. A place is a node's number or NOWHERE.
 use lambdamix::Use;
 use script::Found;
+use script::Name;
+use script::NodeNumber;
 use script::Refusal;
 use script::Verdict;
 use script::column::at8;
@@ -38,10 +41,10 @@ const HIGHEST: u32 = MAX_HEIGHT as u32;
 const NOWHERE: u16 = 65535;
 
 // One more use of a node, counted up to two.
-fn count_one(counts: &mut [u8], m: u16)
-    ensures { λ r. ⌜ Counted (λ j. occurrences j (m ∷ [])) (now (counts .entry)) (now (counts .exit)) ⌝ }
+fn count_one(counts: &mut [u8], m: NodeNumber)
+    ensures { λ r. ⌜ Counted (λ j. occurrences j (m .0 ∷ [])) (now (counts .entry)) (now (counts .exit)) ⌝ }
 {
-    let i = m as usize;
+    let i = m.0 as usize;
     let n = at8(counts, i);
     if n < 2 {
         put8(counts, i, n + 1);
@@ -66,7 +69,7 @@ fn count_field(counts: &mut [u8], u: Use, m: u16)
     ensures { λ r. ⌜ Counted (λ j. occurrences j (keptIf (isChild u) m [])) (now (counts .entry)) (now (counts .exit)) ⌝ }
 {
     if is_child(u) {
-        count_one(counts, m);
+        count_one(counts, NodeNumber(m));
     }
 }
 
@@ -150,13 +153,13 @@ fn tall_join(p: u32, q: u32) -> u32
 }
 
 // Node i over what was answered of its children.
-fn tall_over(i: u16, p: u32) -> u32
-    ensures { λ r. ⌜ TallNode i p r ⌝ }
+fn tall_over(i: NodeNumber, p: u32) -> u32
+    ensures { λ r. ⌜ TallNode (i .0) p r ⌝ }
 {
     if p < HIGHEST {
         return p + 1;
     }
-    let own = HIGHEST + 1 + (i as u32);
+    let own = HIGHEST + 1 + (i.0 as u32);
     if HIGHEST < p {
         if p < own {
             return p;
@@ -170,7 +173,7 @@ fn tall(nodes: &&[u64], i: u16) -> u32
     ensures { λ r. ⌜ Tall r (heightAt (columnsIn (now (now (nodes .entry)))) i) (tooHighAt (columnsIn (now (now (nodes .entry)))) i) ⌝ }
 {
     let p = tall_children(nodes, i, word_at(*nodes, i));
-    tall_over(i, p)
+    tall_over(NodeNumber(i), p)
 }
 
 fn tall_children(nodes: &&[u64], i: u16, w: u64) -> u32
@@ -203,14 +206,14 @@ fn tall_child(nodes: &&[u64], i: u16, m: u16) -> u32
 }
 
 // Whether a name is among those of the enclosing binders, which are the first of the list.
-fn is_bound(names: &[u16; MAX_HEIGHT], depth: usize, x: u16) -> bool
+fn is_bound(names: &[u16; MAX_HEIGHT], depth: usize, x: Name) -> bool
     requires { ⌜ depth ≤ maxHeight ⌝ }
-    ensures { λ r. ⌜ r ≡ member x (innermost (now (names .entry)) depth) ⌝ }
+    ensures { λ r. ⌜ r ≡ member (x .0) (innermost (now (names .entry)) depth) ⌝ }
 {
     let mut found = false;
     let mut d = 0;
     while d < depth {
-        if names[d] == x {
+        if names[d] == x.0 {
             found = true;
         }
         d += 1;
@@ -229,17 +232,23 @@ fn lower(p: u16, q: u16) -> u16
 }
 
 // Node i, a variable, if it is no input and has no binder.
-fn unbound_name(names: &[u16; MAX_HEIGHT], depth: usize, inputs: usize, i: u16, x: u16) -> u16
-    requires { ⌜ (depth ≤ maxHeight) × (i < 65535) ⌝ }
-    ensures { λ r. ⌜ Place r (unboundName true inputs (innermost (now (names .entry)) depth) x i) ⌝ }
+fn unbound_name(
+    names: &[u16; MAX_HEIGHT],
+    depth: usize,
+    inputs: usize,
+    i: NodeNumber,
+    x: Name,
+) -> u16
+    requires { ⌜ (depth ≤ maxHeight) × (i .0 < 65535) ⌝ }
+    ensures { λ r. ⌜ Place r (unboundName true inputs (innermost (now (names .entry)) depth) (x .0) (i .0)) ⌝ }
 {
-    if (x as usize) < inputs {
+    if (x.0 as usize) < inputs {
         return NOWHERE;
     }
     if is_bound(names, depth, x) {
         return NOWHERE;
     }
-    i
+    i.0
 }
 
 // The lowest unbound variable of node i's tree, or NOWHERE. A binder's name is put after those around it.
@@ -250,7 +259,7 @@ fn scope(nodes: &&[u64], inputs: usize, names: &mut [u16; MAX_HEIGHT], depth: us
 {
     let w = word_at(*nodes, i);
     match kind(w) {
-        1 => unbound_name(names, depth, inputs, i, field_a(w)),
+        1 => unbound_name(names, depth, inputs, NodeNumber(i), Name(field_a(w))),
         2 | 5 | 10 => scope_child(nodes, inputs, names, depth, i, field_a(w)),
         3 | 8 => {
             names[depth] = field_a(w);
@@ -291,12 +300,12 @@ fn scope_child(
 }
 
 // Refusal 8, after 7.
-fn scope_refusal(nodes: &[u64], inputs: usize, root: u16) -> Verdict
-    requires { ⌜ (root < 65535) × (heightAt (columnsIn (now nodes)) root ≤ maxHeight) ⌝ }
-    ensures { λ r. ⌜ refusalOf r ≡ refusedAt 8 (unboundAt (columnsIn (now (nodes .entry))) inputs root []) ⌝ }
+fn scope_refusal(nodes: &[u64], inputs: usize, root: NodeNumber) -> Verdict
+    requires { ⌜ (root .0 < 65535) × (heightAt (columnsIn (now nodes)) (root .0) ≤ maxHeight) ⌝ }
+    ensures { λ r. ⌜ refusalOf r ≡ refusedAt 8 (unboundAt (columnsIn (now (nodes .entry))) inputs (root .0) []) ⌝ }
 {
     let mut names = [0u16; MAX_HEIGHT];
-    let place = scope(&nodes, inputs, &mut names, 0, root);
+    let place = scope(&nodes, inputs, &mut names, 0, root.0);
     if place == NOWHERE {
         return Verdict::Passed;
     }
@@ -307,11 +316,11 @@ fn scope_refusal(nodes: &[u64], inputs: usize, root: u16) -> Verdict
 }
 
 // Refusals 7 and 8, after 6.
-fn tree_refusal(nodes: &[u64], inputs: usize, root: u16) -> Verdict
-    requires { ⌜ root < 65535 ⌝ }
-    ensures { λ r. ⌜ refusalOf r ≡ orElse (refusedAt 7 (tooHighAt (columnsIn (now (nodes .entry))) root)) (refusedAt 8 (unboundAt (columnsIn (now (nodes .entry))) inputs root [])) ⌝ }
+fn tree_refusal(nodes: &[u64], inputs: usize, root: NodeNumber) -> Verdict
+    requires { ⌜ root .0 < 65535 ⌝ }
+    ensures { λ r. ⌜ refusalOf r ≡ orElse (refusedAt 7 (tooHighAt (columnsIn (now (nodes .entry))) (root .0))) (refusedAt 8 (unboundAt (columnsIn (now (nodes .entry))) inputs (root .0) [])) ⌝ }
 {
-    let height = tall(&nodes, root);
+    let height = tall(&nodes, root.0);
     if height <= HIGHEST {
         return scope_refusal(nodes, inputs, root);
     }
@@ -334,7 +343,7 @@ pub(crate) fn structure_refusal(nodes: &[u64], inputs: usize, count: usize) -> V
     let n = count as u16;
     let place = first_misused(nodes, n);
     match place {
-        Found::Nowhere => tree_refusal(nodes, inputs, n - 1),
+        Found::Nowhere => tree_refusal(nodes, inputs, NodeNumber(n - 1)),
         Found::At(j) => Verdict::Refused(Refusal {
             number: 6,
             place: j,

@@ -5,8 +5,8 @@ use Rattle.residual.proofs.emit.emit_node.Statement.{statement}
 use Rattle.residual.proofs.emit.emit_node.Tie as tie
 
 returns : tie.Need-returns
-returns c = rw (toZ-ofZ (c .before .before .before .before .before .fits .z)) at (c .before .before .node-at .ensures)
+returns c = rw (toZ-ofZ (c .before .before .before .before .before .before .fits .z)) at (c .before .before .node-at .ensures)
 
 pub emit-node-spec : {M : Type 1} → statement M
 emit-node-spec =
-    tie.close (tie.spec (λ c. search needs) (λ c. search needs) (λ c κs. search needs) (λ c. search needs) returns)
+    tie.close (tie.spec (λ c. search needs) (λ c. search needs) (λ c. search needs) (λ c κs. search needs) (λ c. search needs) returns)

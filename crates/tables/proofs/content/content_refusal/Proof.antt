@@ -15,13 +15,13 @@ use Rattle.tables.proofs.content.content_refusal.Tie as tie
 first-bad-node-requires : tie.Need-first-bad-node-requires
 unfolding maxNodes
 first-bad-node-requires c κs =
-    let l = in-limits _ _ _ (sym (c .before .before .before .before .before .counts-right .ensures) ∙ c .before .before .before .before .if1 .taken) in
-    ((omega (arith, l .nodes), omega (arith, l .nodes, c .before .before .before .before .before .before .before .before .before .before .before .before .before .before .pre .1)), c .before .before .before .before .before .before .before .before .before .before .before .before .before .before .pre .0)
+    let l = in-limits _ _ _ (sym (c .before .before .before .before .counts-right .ensures) ∙ c .before .before .before .if1 .taken) in
+    ((omega (arith, l .nodes), omega (arith, l .nodes, c .before .before .before .before .before .before .before .before .before .before .before .before .before .pre .1)), c .before .before .before .before .before .before .before .before .before .before .before .before .before .pre .0)
 
 record-refusal-requires : tie.Need-record-refusal-requires
 unfolding maxTypes maxInputs maxNodes
 record-refusal-requires c κs =
-    let l = in-limits _ _ _ (sym (c .before .before .before .before .before .before .before .before .counts-right .ensures) ∙ c .before .before .before .before .before .before .before .if1 .taken) in (
+    let l = in-limits _ _ _ (sym (c .before .before .before .before .before .before .before .counts-right .ensures) ∙ c .before .before .before .before .before .before .if1 .taken) in (
       found-below _ _ _ (c .before .before .before .before .before .first-bad-type .ensures) (omega (arith, l .types)),
       (
         found-below _ _ _ (c .before .before .before .before .first-bad-input .ensures) (omega (arith, l .inputs)),
@@ -33,7 +33,7 @@ returns : tie.Need-returns
 unfolding rowType rowInput rowNode
 returns c = (
   c .record-refusal .ensures
-      ∙ content-by-searches _ _ _ _ (sym (c .before .before .before .before .before .before .before .before .before .counts-right .ensures) ∙ c .before .before .before .before .before .before .before .before .if1 .taken) (c .before .before .before .before .before .before .first-bad-type .ensures) (c .before .before .before .before .before .first-bad-input .ensures) (c .before .before .before .first-bad-node .ensures .0),
+      ∙ content-by-searches _ _ _ _ (sym (c .before .before .before .before .before .before .before .before .counts-right .ensures) ∙ c .before .before .before .before .before .before .before .if1 .taken) (c .before .before .before .before .before .before .first-bad-type .ensures) (c .before .before .before .before .before .first-bad-input .ensures) (c .before .before .before .first-bad-node .ensures .0),
   packed-by-search _ _ _ _ _ (c .record-refusal .ensures) (c .before .before .before .first-bad-node .ensures .1),
 )
 
@@ -46,7 +46,6 @@ content-refusal-spec =
     tie.close
     (tie.spec
     (λ c κs. tt)
-    (λ c. search needs)
     (λ c κs. tt)
     (λ c κs. tt)
     first-bad-node-requires

@@ -4,7 +4,7 @@ use mathlib.Core.Path.{_≡_, refl}
 use native.Mathlib.Nat.{lt-of-lt-of-le}
 use native.Mathlib.Omega.{arith}
 use lib.ListN.{length, length-set}
-use mir.Syntax.{w32, w64}
+use mir.Syntax.{w16, w32, w64}
 use mir.Val.{Fits}
 use mir.Facts.{toZ-ofZ}
 use Rattle.lambdamix.specs.Limits.{maxNodes}
@@ -25,12 +25,13 @@ Inv-loop types inputs nodes kinds a b c values words₀ j₀ words j =
 abbrev μ-loop : tie.MeasureT-loop
 μ-loop types inputs nodes kinds a b c values words₀ j₀ words j = nodes - j
 
--- the number of a node, the number after it and the places of its parts fit a word
+-- the number after a node's has 16 bits, and its place and those of its parts fit a word
 record InWord (j : ℕ) : Type 0 where
+  next : Fits w16 (j + 1)
+  one : Fits w64 j
   two : Fits w64 (j * 2)
   four : Fits w64 (j * 4)
   eight : Fits w64 (j * 8)
-  next : Fits w64 (j + 1)
 
 in-word : {j n : ℕ} → j < n → n ≤ maxNodes → InWord j
 unfolding maxNodes
@@ -38,6 +39,9 @@ in-word h k = omega arith
 
 loop-holds : tie.Need-loop-holds Inv-loop μ-loop
 loop-holds c = (search-begins _ _, (packed-none _ _, refl))
+
+cast-at : tie.Need-cast-at Inv-loop μ-loop
+cast-at c = in-word (c .loop-test .taken) (c .before .before .before .before .before .before .before .pre .0 .0) .one
 
 read-kind : tie.Need-shared-slice-read-kind Inv-loop μ-loop
 read-kind c = lt-of-lt-of-le (c .before .loop-test .taken) (c .before .before .before .before .before .before .before .before .pre .1 .kinds)
@@ -116,6 +120,7 @@ first-bad-node-spec =
     Inv-loop
     μ-loop
     loop-holds
+    cast-at
     read-kind
     mul-x
     read-x

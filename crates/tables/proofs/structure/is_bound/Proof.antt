@@ -12,7 +12,7 @@ use Rattle.tables.proofs.structure.is_bound.Statement.{statement}
 use Rattle.tables.proofs.structure.is_bound.Tie as tie
 
 abbrev Inv-loop : tie.InvT-loop
-Inv-loop names depth x found₀ d₀ found d = (d ≤ depth) × (found ≡ member x (innermost names d))
+Inv-loop names depth x found₀ d₀ found d = (d ≤ depth) × (found ≡ member (x .0) (innermost names d))
 
 abbrev μ-loop : tie.MeasureT-loop
 μ-loop names depth x found₀ d₀ found d = depth - d
@@ -31,7 +31,7 @@ element-copy-out-if1 c = search needs
 
 loop-again : tie.Need-loop-again Inv-loop μ-loop
 loop-again c =
-    (omega arith, ⊎-elim (λ s. found-here _ _ _ (c .before .before .before .loop .inv .1) (s .0 .taken) (s .1)) (λ s. found-before _ _ _ (c .before .before .before .loop .inv .1) (s .0 .left) (s .1)) (c .if1 .came))
+    (omega arith, ⊎-elim (λ s. found-here _ _ _ (c .before .before .before .before .loop .inv .1) (s .0 .taken) (s .1)) (λ s. found-before _ _ _ (c .before .before .before .before .loop .inv .1) (s .0 .left) (s .1)) (c .if1 .came))
 
 returns : tie.Need-returns Inv-loop μ-loop
 returns c = let e : c .before .loop .d ≡ c .before .before .args .depth = omega arith in rw (sym e) (c .before .loop .inv .1)

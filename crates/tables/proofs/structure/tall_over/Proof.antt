@@ -15,6 +15,7 @@ tall-over-spec =
     (λ c. node-low (omega arith))
     (λ c. search needs)
     (λ c. search needs)
+    (λ c. search needs)
     (λ c. node-passes-on (omega arith) (omega arith))
     (λ c. node-keeps-own (omega arith) (omega arith) (omega arith))
     (λ c. node-crosses (omega arith) (omega arith) (omega arith)))

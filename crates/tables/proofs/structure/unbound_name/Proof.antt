@@ -17,7 +17,7 @@ returns-2 c = rw (le-ltb _ _ (c .before .before .if1 .left), sym (c .before .is-
 
 returns-3 : tie.Need-returns-3
 unfolding unboundName unlessBound
-returns-3 c = rw (le-ltb _ _ (c .before .before .if1 .left), sym (c .before .is-bound .ensures) ∙ c .if2 .left) (node (c .before .before .before .pre .1))
+returns-3 c = rw (le-ltb _ _ (c .before .before .if1 .left), sym (c .before .is-bound .ensures) ∙ c .if2 .left) (node (c .before .before .before .before .pre .1))
 
 pub unbound-name-spec : {M : Type 1} → statement M
-unbound-name-spec = tie.close (tie.spec returns (λ c κs. search needs) returns-2 returns-3)
+unbound-name-spec = tie.close (tie.spec (λ c. search needs) returns (λ c κs. search needs) returns-2 returns-3)
