@@ -3,6 +3,7 @@ pub mod ByteLaws
 pub mod RecordLaws
 pub mod Layouts
 pub mod FileLaws
+pub mod WriterRefusals
 pub mod Filling
 pub mod MarkLaws
 pub mod HeadLaws

@@ -1,29 +1,35 @@
 -- "no listing passes 65,536 bytes": each node of a script past refusals 1 to 8 but the root is the child of one place, so its
--- own bytes, at most 13, are counted once. Assumes nothing.
+-- own bytes, at most 13, are counted once. So 65,536 bytes are room enough for `list`. Assumes nothing.
 use Prim.Native.Nat.{ℕ, zero, suc, _+_, _-_, _*_, _≤_, _<_}
 use mathlib.Core.Path.{_≡_, refl, sym, ap, _∙_}
 use mathlib.Core.Bool.{Bool, true, false}
 use mathlib.Core.List.{List, [], _∷_}
-use mathlib.Core.Option.{none}
+use mathlib.Core.Option.{Option, none, some}
 use native.Mathlib.Nat.{add-mul, one-mul}
 use native.Mathlib.Omega.{arith}
 use lib.ListN.{length, getD, length-append}
 use lib.Dec.{ltb, eqb}
-use borrow.Author.Tests.{ltb-true, ltb-false, lt-ltb, le-ltb, eq-eqb, eqb-true, eqb-false}
+use borrow.Author.Tests.{ltb-true, ltb-false, lt-ltb, le-ltb, le-leb, eq-eqb, eqb-true, eqb-false}
 use Rattle.lambdamix.specs.Limits.{maxNodes}
 use Rattle.lambdamix.specs.Falling.{guarded, below}
 use Rattle.lambdamix.specs.Script.{Script, Node, nodeAt, nodeCount, inputCount, root, children, blankNode}
-use Rattle.lambdamix.specs.Structure.{oneIf, occurrences, uses, member}
+use Rattle.lambdamix.specs.Checker.{Refusal}
+use Rattle.lambdamix.specs.Structure.{oneIf, occurrences, uses, member, orElse, refusedUnless}
 use Rattle.lambdamix.specs.Term.{tree}
 use Rattle.lambdamix.specs.Text.{ascii, digits}
 use Rattle.lambdamix.specs.Listing.{termText, listing}
 use Rattle.lambdamix.proofs.Falling.{below-at}
 use Rattle.lambdamix.proofs.Tests.{or-left, or-right}
-use Rattle.file.specs.Encodable.{Encodable}
+use Rattle.file.specs.Encodable.{Encodable, LentTables}
+use Rattle.file.proofs.WriterRefusals.{lent-encodable}
+use Rattle.script.specs.declared.Counts.{Counts}
 use Rattle.script.specs.Refusals.{scriptRefusal}
+use Rattle.script.specs.Tables.{Tables, tablesRefusal}
+use Rattle.script.proofs.RefusalLaws.{neither}
 use Rattle.script.proofs.Sound.{Sound, sound}
 use Rattle.tables.proofs.Agreement.{children-fall}
 use Rattle.printer.specs.Nodes.{nodesText}
+use Rattle.printer.specs.Answers.{roomRefusal, tablesText, listRefusal}
 use Rattle.printer.proofs.NodeLaws.{node-step}
 use Rattle.printer.proofs.Trees.{tree-text}
 use Rattle.printer.proofs.OwnBytes.{total, own-bytes}
@@ -165,3 +171,21 @@ listing-bytes s fits e =
 pub listing-bound : (s : Script) → Encodable s → scriptRefusal s ≡ none → length (listing s) ≤ 65536
 unfolding maxNodes
 listing-bound s fits e = omega (arith, listing-bytes s fits e, sound s e .within .nodes)
+
+module _ (n : Counts) (x : Tables) (lent : LentTables (n .types) (n .inputs) (n .nodes) x) where
+  -- The listing of lent tables that 1 to 8 do not refuse has at most 65,536 bytes.
+  lent-bound : tablesRefusal (n .types) (n .inputs) (n .nodes) x ≡ none → length (tablesText n x) ≤ 65536
+  unfolding tablesRefusal tablesText
+  lent-bound e = listing-bound _ (lent-encodable lent) (neither _ _ e .1)
+
+  -- So with an output of as many bytes `list` never answers 21.
+  pub room-for-listing :
+      (out : List ℕ) → 65536 ≤ length out → listRefusal n x out ≡ tablesRefusal (n .types) (n .inputs) (n .nodes) x
+  unfolding listRefusal roomRefusal orElse refusedUnless
+  room-for-listing out room = go (tablesRefusal (n .types) (n .inputs) (n .nodes) x) refl
+    where
+      go :
+          (r : Option Refusal) → tablesRefusal (n .types) (n .inputs) (n .nodes) x ≡ r →
+          orElse r (roomRefusal (tablesText n x) out) ≡ r
+      go none e = rw (le-leb (length (tablesText n x)) (length out) (omega (arith, lent-bound e)))
+      go (some f) e = refl
