@@ -63,7 +63,7 @@ kept-then a l b = record { same = b .same ∙ a .same; names = λ k h. b .names 
 
 -- a binder on top
 pub binds-more :
-    {s : Script} {xs ys : List ℕ} {w d e y t : ℕ} {Γ : Context} → Pushed w d e xs ys → d < length xs → Pair w y t → t < typeCount s →
+    {s : Script} {xs ys : List ℕ} {w d e y t : ℕ} {Γ : Context} → Pushed w d e xs ys → d < length xs → Pair w t y → t < typeCount s →
     Binds s xs d Γ → Binds s ys e (bind y (typeOf s t) Γ)
 binds-more {d} {y} {t} p l q h b =
     let (e, f) = p .top l in
@@ -92,7 +92,7 @@ input-type s (suc (suc t)) h = let z : ⊥ = omega arith in absurd z
 
 bound-from :
     (s : Script) (binders : List ℕ) (k : ℕ) (ts : List ℕ) →
-    ((j : ℕ) → j < length ts → Pair (getD binders (length ts - 1 - j) 0) (k + j) (getD ts j 0)) →
+    ((j : ℕ) → j < length ts → Pair (getD binders (length ts - 1 - j) 0) (getD ts j 0) (k + j)) →
     ((j : ℕ) → j < length ts → getD ts j 0 ≤ 1) → Binds s binders (length ts) (contextFrom k ts)
 unfolding contextFrom typeCount
 bound-from s binders k [] p h = no-binder
@@ -104,7 +104,7 @@ bound-from s binders k (t ∷ ts) p h =
     rw (← input-type s t few)
     (one-more (bound-from s binders (suc k) ts rest (λ j l. h (suc j) (omega arith))) (rw (e, f) at q) (omega arith))
   where
-    rest : (j : ℕ) → j < length ts → Pair (getD binders (length ts - 1 - j) 0) (suc k + j) (getD ts j 0)
+    rest : (j : ℕ) → j < length ts → Pair (getD binders (length ts - 1 - j) 0) (getD ts j 0) (suc k + j)
     rest j l =
         let e : suc (length ts) - 1 - suc j ≡ length ts - 1 - j = omega arith in
         let f : k + suc j ≡ suc k + j = omega arith in
@@ -113,7 +113,7 @@ bound-from s binders k (t ∷ ts) p h =
 -- Theorem: the inputs at the bottom of a stack make up the inputs' context.
 pub inputs-bound :
     (s : Script) → Sound s → (binders : List ℕ) →
-    ((j : ℕ) → j < length (s .inputs) → Pair (getD binders (length (s .inputs) - 1 - j) 0) j (getD (s .inputs) j 0)) →
+    ((j : ℕ) → j < length (s .inputs) → Pair (getD binders (length (s .inputs) - 1 - j) 0) (getD (s .inputs) j 0) j) →
     Binds s binders (length (s .inputs)) (inputContext s)
 unfolding inputContext inputFits
 inputs-bound s ok binders p =
@@ -136,4 +136,4 @@ pub bound-stands :
 unfolding bound typeAt own varRule
 bound-stands s ok i y l no-binder = fault-stands s 9 i (omega arith) l
 bound-stands s ok i y l (one-more b p h) =
-    rw (p .high, p .low) (chosen-stands s _ _ _ i _ _ (type-stands s ok _ h) (bound-stands s ok i y l b))
+    rw (p .low, p .high) (chosen-stands s _ _ _ i _ _ (type-stands s ok _ h) (bound-stands s ok i y l b))

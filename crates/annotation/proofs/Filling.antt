@@ -46,14 +46,14 @@ module _ {ps rs before : List ℕ} where
 -- the first j of n inputs are bound
 pub record Binding (n : ℕ) (is before stack : List ℕ) (j : ℕ) : Type 0 where
   pub same : length stack ≡ length before
-  pub done : (k : ℕ) → k < j → n ≤ length before → Pair (getD stack (n - 1 - k) 0) k (getD is k 0)
+  pub done : (k : ℕ) → k < j → n ≤ length before → Pair (getD stack (n - 1 - k) 0) (getD is k 0) k
 
 module _ {n : ℕ} {is before : List ℕ} where
   pub none-bound : Binding n is before before 0
   none-bound = record { same = refl; done = λ k h. let z : ⊥ = omega arith in absurd z }
 
   pub one-bound :
-      {stack : List ℕ} {j w b : ℕ} → Binding n is before stack j → j < n → Pair w j b → b ≡ getD is j 0 →
+      {stack : List ℕ} {j w b : ℕ} → Binding n is before stack j → j < n → Pair w b j → b ≡ getD is j 0 →
       Binding n is before (set stack (n - 1 - j) w) (j + 1)
   one-bound {stack} {j} {w} p h q e =
       record {

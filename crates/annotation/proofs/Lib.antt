@@ -7,5 +7,4 @@ pub mod Rules
 pub mod Recursion
 pub mod Filling
 pub mod Root
-pub mod Joining
 pub mod Acceptance

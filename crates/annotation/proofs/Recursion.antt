@@ -160,7 +160,7 @@ binder-some abstracts = omega arith
 binder-some abstracts-dynamic = omega arith
 
 module _ {words ts before pushed after : List ℕ} {d inner i w g p v m e : ℕ}
-    (o : w ≡ getD words i 0) (name : g ≡ wordA w) (pairs : Pair v g p) (push : Pushed v d inner before pushed) (f : m ≡ wordC w)
+    (o : w ≡ getD words i 0) (name : g ≡ wordA w) (pairs : Pair v p g) (push : Pushed v d inner before pushed) (f : m ≡ wordC w)
     (a : ChildAnswers words ts pushed after inner i m e) where
   module _ (s : Script) (Γ : Context) (l : Lent s words ts) (b : Binds s before d Γ) (h : i < nodeCount s)
       (room : d + height (tree s i) ≤ length before) (n : BindsName (wordKind w)) where

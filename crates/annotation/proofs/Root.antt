@@ -17,14 +17,14 @@ use Rattle.lambdamix.proofs.Tests.{holds-or-fails}
 use Rattle.script.specs.declared.Counts.{Counts}
 use Rattle.script.specs.declared.Verdict.{Verdict}
 use Rattle.script.specs.Replies.{refusalOf}
-use Rattle.script.specs.Tables.{Tables, rowType, rowInput, rowNode, tablesRefusal}
-use Rattle.script.specs.Columns.{tablesOf}
+use Rattle.script.specs.Tables.{Tables, rowType, rowInput, rowNode, tablesRefusal, tablesOf}
 use Rattle.script.specs.Words.{Packed}
+use Rattle.script.proofs.Rows.{type-count, input-count, node-count, type-row, input-row, node-row}
 use Rattle.script.proofs.RefusalLaws.{neither}
 use Rattle.annotation.specs.Answers.{scriptOf, Passes, pick, typeBase, typeIn, meaning, Stands, rootAnswer}
 use Rattle.annotation.specs.Walks.{Lists, Lent, Binds, stackPlaces, Bottom, Answers, Annotated}
 use Rattle.script.proofs.Sound.{Sound}
-use Rattle.annotation.proofs.Passing.{passes-sound, type-count, input-count, node-count, type-row, input-row, node-row}
+use Rattle.annotation.proofs.Passing.{passes-sound}
 use Rattle.annotation.proofs.TypeNumbers.{View, static, dynamic, arrow, view}
 use Rattle.annotation.proofs.Contexts.{inputs-bound}
 
@@ -51,11 +51,11 @@ module _ (n : Counts) (x : Tables) (ok : Passes n x) where
   tables-lent p t =
       record {
         passes = neither _ _ ok .1;
-        nodes = record { each = λ j h. let l : j < n .nodes = omega (arith, node-count n x) in rw (node-row n x j l) (p .each j l) };
+        nodes = record { each = λ j h. let l : j < n .nodes = omega (arith, node-count (n .types) (n .inputs) (n .nodes) x) in rw (node-row (n .types) (n .inputs) (n .nodes) x j l) (p .each j l) };
         types =
             record {
-              each = λ j h. let l : j < n .types = omega (arith, type-count n x) in rw (type-row n x j l) (t .each j l);
-              past = λ j h l. t .past j (omega (arith, type-count n x)) l;
+              each = λ j h. let l : j < n .types = omega (arith, type-count (n .types) (n .inputs) (n .nodes) x) in rw (type-row (n .types) (n .inputs) (n .nodes) x j l) (t .each j l);
+              past = λ j h l. t .past j (omega (arith, type-count (n .types) (n .inputs) (n .nodes) x)) l;
               room = t .room;
             };
       }
@@ -63,9 +63,9 @@ module _ (n : Counts) (x : Tables) (ok : Passes n x) where
   inputs-lent : {before : List ℕ} → Bottom (n .inputs) (x .inputs) before → Binds (scriptOf n x) before (n .inputs) (inputContext (scriptOf n x))
   unfolding rowInput
   inputs-lent {before} b =
-      rw (input-count n x) at
+      rw (input-count (n .types) (n .inputs) (n .nodes) x) at
       (inputs-bound (scriptOf n x) (passes-sound n x ok) before
-      (λ j h. let l : j < n .inputs = omega (arith, input-count n x) in rw (input-count n x, input-row n x j l) (b .each j l)))
+      (λ j h. let l : j < n .inputs = omega (arith, input-count (n .types) (n .inputs) (n .nodes) x) in rw (input-count (n .types) (n .inputs) (n .nodes) x, input-row (n .types) (n .inputs) (n .nodes) x j l) (b .each j l)))
 
 -- Theorem: the root's answer gives refusals 9, 10 and 11.
 pub at-root :
@@ -80,10 +80,10 @@ at-root {n} {ps} {rs} {is} {words} {before} {i} {r} t b c e a q = record {
       let s = scriptOf n x in
       let sd = passes-sound n x ok in
       let some = sd .within .some-node in
-      let m = node-count n x in
+      let m = node-count (n .types) (n .inputs) (n .nodes) x in
       let f : i ≡ nodeCount s - 1 = omega arith in
-      let lent = tables-lent n x ok p (t (omega (arith, type-count n x, sd .within .types))) in
-      let st = a .reply s _ lent (inputs-lent n x ok (b (omega (arith, input-count n x, sd .within .inputs)))) (omega arith)
-      (omega (arith, input-count n x, sd .within .inputs, sd .low i (omega arith))) in
+      let lent = tables-lent n x ok p (t (omega (arith, type-count (n .types) (n .inputs) (n .nodes) x, sd .within .types))) in
+      let st = a .reply s _ lent (inputs-lent n x ok (b (omega (arith, input-count (n .types) (n .inputs) (n .nodes) x, sd .within .inputs)))) (omega arith)
+      (omega (arith, input-count (n .types) (n .inputs) (n .nodes) x, sd .within .inputs, sd .low i (omega arith))) in
       q ∙ root-stands s sd i r st ∙ rw f;
 }

@@ -16,8 +16,7 @@ use Rattle.lambdamix.specs.Checker.{check, annotationRefusal}
 use Rattle.script.specs.declared.Counts.{Counts}
 use Rattle.script.specs.declared.Verdict.{Verdict}
 use Rattle.script.specs.Refusals.{scriptRefusal}
-use Rattle.script.specs.Tables.{rowNode}
-use Rattle.script.specs.Columns.{tablesOf}
+use Rattle.script.specs.Tables.{rowNode, tablesOf}
 use Rattle.script.specs.Replies.{refusalOf}
 use Rattle.script.specs.Words.{wordKind, Packed}
 use Rattle.tables.specs.Walks.{Kept}
@@ -50,18 +49,18 @@ pub data Listing (ts : List ℕ) (w i : ℕ) : ℕ → Type 0 where
   listed-at : (j : ℕ) → j < maxTypes → getD ts j 0 ≡ w → Listing ts w i (typeAnswer (2 + j))
   not-listed : ((j : ℕ) → j < maxTypes → getD ts j 0 ≡ w → ⊥) → Listing ts w i (faultAnswer 10 i)
 
--- the first d binders make up a context, the last innermost; a binder is its name over its type's number
+-- the first d binders make up a context, the last innermost; a binder is its type's number over its name
 pub data Binds (s : Script) (binders : List ℕ) : ℕ → Context → Type 0 where
   no-binder : Binds s binders 0 empty
   one-more :
-      {d y t : ℕ} {Γ : Context} → Binds s binders d Γ → Pair (getD binders d 0) y t → t < typeCount s →
+      {d y t : ℕ} {Γ : Context} → Binds s binders d Γ → Pair (getD binders d 0) t y → t < typeCount s →
       Binds s binders (suc d) (bind y (typeOf s t) Γ)
 
 -- the answer of node i, a variable of the name x, among d binders, the last first
 unfoldable pub bound : List ℕ → ℕ → ℕ → ℕ → ℕ
 bound binders x i zero = faultAnswer 9 i
 bound binders x i (suc d) =
-    pick (eqb (highHalf (getD binders d 0)) x) (typeAnswer (lowHalf (getD binders d 0))) (bound binders x i d)
+    pick (eqb (lowHalf (getD binders d 0)) x) (typeAnswer (highHalf (getD binders d 0))) (bound binders x i d)
 
 -- places of the stack: the inputs, and as many binders as a tree is high
 abbrev pub stackPlaces : ℕ
@@ -69,7 +68,7 @@ stackPlaces = maxInputs + maxHeight
 
 -- n inputs as binders, the first innermost
 pub record Bottom (n : ℕ) (types binders : List ℕ) : Type 0 where
-  pub each : (j : ℕ) → j < n → Pair (getD binders (n - 1 - j) 0) j (getD types j 0)
+  pub each : (j : ℕ) → j < n → Pair (getD binders (n - 1 - j) 0) (getD types j 0) j
 
 -- a binder on a stack d deep, which is e deep then
 pub record Pushed (w d e : ℕ) (before after : List ℕ) : Type 0 where

@@ -10,7 +10,7 @@ ghost use mathlib.Core.Path.{_≡_};
 ghost use lib.ListN.{length};
 ghost use Rattle.lambdamix.specs.Limits.{maxNodes};
 ghost use Rattle.script.specs.Replies.{refusalOf};
-ghost use Rattle.script.specs.Columns.{tablesOf};
+ghost use Rattle.script.specs.Tables.{tablesOf};
 ghost use Rattle.annotation.specs.Checks.{checkRefusal};
 
 // The check in words for the nodes, or for as many as a script may have.

@@ -51,7 +51,7 @@ const FIRST_LISTED: u16 = 2;
 // What a place past the listed types holds: no pair of types.
 const UNLISTED: u32 = 4294967295;
 
-// A listed type, its parameter over its result, or a binder, its name over its type.
+// A listed type, its parameter over its result, or a binder, its type over its name.
 fn pair(a: u16, b: u16) -> u32
     ensures { λ r. ⌜ Pair r a b ⌝ }
     ensures word { λ r. ⌜ r ≡ pairWord a b ⌝ }
@@ -178,8 +178,8 @@ fn variable(stack: &[u32], depth: usize, i: NodeNumber, x: Name) -> u32
     while 0 < d {
         d -= 1;
         let w = stack[d];
-        if high(w) == x.0 {
-            return typed(TypeNumber(low(w)));
+        if low(w) == x.0 {
+            return typed(TypeNumber(high(w)));
         }
     }
     fault(9, i)
@@ -384,7 +384,7 @@ fn binder(
     ensures { λ r. ⌜ Answers (now (now (nodes .entry))) (now (types .entry)) (now (stack .entry)) (now (stack .exit)) depth i r ⌝ }
 {
     let p = parameter(w);
-    let inner = push(stack, depth, pair(field_a(w), p.0));
+    let inner = push(stack, depth, pair(p.0, field_a(w)));
     let e = child(nodes, types, stack, inner, i, field_c(w));
     binder_rule(types, kind(w), p, NodeNumber(i), e)
 }
@@ -409,7 +409,7 @@ fn bind_inputs(inputs: &[u16], count: u16, stack: &mut [u32])
 {
     let mut j: u16 = 0;
     while j < count {
-        let w = pair(j, at16(inputs, j as usize));
+        let w = pair(at16(inputs, j as usize), j);
         put(stack, (count - 1 - j) as usize, w);
         j += 1;
     }

@@ -1,17 +1,16 @@
 -- Demand 3's last part, through the bytes: the written script of a finished run of an accepted file, where 26 does not hold,
 -- is accepted again, by ALL of refusals 1 to 11. Assumes nothing.
 use Prim.Native.Nat.{ℕ, _≤_}
-use mathlib.Core.Path.{_≡_, sym, subst⁻¹, _∙_}
-use mathlib.Core.Bool.{true, false}
+use mathlib.Core.Path.{_≡_, subst⁻¹, _∙_}
+use mathlib.Core.Bool.{true}
 use mathlib.Core.List.{List, []}
 use mathlib.Core.Option.{none}
-use mathlib.Core.Logic.{⊎-elim}
 use native.Mathlib.Omega.{arith}
 use native.Mathlib.Nat.{le-of-lt}
 use lib.IntN.{ℤ, pos}
-use lib.ListN.{length, getD, List·getD-eq-default}
-use lib.Dec.{leb, ltb}
-use borrow.Author.Tests.{leb-true, le-leb, ltb-true, ltb-false}
+use lib.ListN.{length, getD}
+use lib.Dec.{leb}
+use borrow.Author.Tests.{leb-true, le-leb}
 use Rattle.lambdamix.specs.Limits.{maxInputs, maxNodes, maxFuel}
 use Rattle.lambdamix.specs.Script.{Script, Node, blankNode, nodeAt, inputCount}
 use Rattle.lambdamix.specs.Checker.{annotationRefusal}
@@ -19,7 +18,6 @@ use Rattle.lambdamix.specs.Structure.{firstFailing, orElse, structureRefusal}
 use Rattle.lambdamix.specs.Code.{Code, fits, written}
 use Rattle.lambdamix.specs.Specializing.{specialized, finished}
 use Rattle.lambdamix.specs.Demand.{Accepted}
-use Rattle.lambdamix.proofs.Tests.{holds-or-fails}
 use Rattle.lambdamix.proofs.Checking.{checker-accepts}
 use Rattle.lambdamix.proofs.Range.{Fits, CodeFits, code-in-range}
 use Rattle.lambdamix.proofs.Suits.{Scoped}
@@ -27,12 +25,13 @@ use Rattle.lambdamix.proofs.Bounds.{names-fit}
 use Rattle.lambdamix.proofs.WellAnnotated.{finished-run, finished-code-scoped}
 use Rattle.lambdamix.proofs.DemandThree.{demand-three}
 use Rattle.script.specs.File.{scriptIn, fileBytes}
-use Rattle.script.specs.Refusals.{inputFits, countsRight, contentOf, contentRefusal, scriptRefusal, fileRefusal}
+use Rattle.script.specs.Refusals.{inputFits, countsRight, contentOf, contentRefusal, scriptRefusal}
 use Rattle.file.specs.Encodable.{AllBytes, Encodable}
 use Rattle.file.specs.AcceptedFile.{AcceptedFile}
+use Rattle.script.proofs.Rows.{everywhere}
 use Rattle.script.proofs.Sound.{sound}
 use Rattle.script.proofs.RefusalLaws.{neither, not-refused, pass-over, no-record, passes}
-use Rattle.file.proofs.FileLaws.{read-written, file-refusal, read-fits, written-read}
+use Rattle.file.proofs.FileLaws.{read-written, file-refusal, read-fits, script-passes}
 use Rattle.file.proofs.WrittenContent.{sizes-right, each-good, written-counts, written-content}
 
 -- what refusals 3 to 11 that are none say of a script
@@ -132,35 +131,22 @@ module _
           again .annotated,
         )
 
-    -- Its file passes ALL of refusals 1 to 11.
+    -- Its file passes all of refusals 1 to 11.
     pub script-accepted-again : AcceptedFile (fileBytes (written s c))
     script-accepted-again = let (e, r, a) = written-again in through-bytes (written s c) e r a
-
-module _ (bs : List ℕ) (bytes : AllBytes bs) (h : AcceptedFile bs) where
-  script-passes : scriptRefusal (scriptIn bs) ≡ none
-  script-passes = sym (file-refusal (scriptIn bs) (read-fits bs bytes)) ∙ subst⁻¹ (λ b. fileRefusal b ≡ none) (written-read bs bytes (h .read)) (h .read)
-
-  pub accepted : Accepted (scriptIn bs)
-  accepted = script-accepted (scriptIn bs) script-passes (h .annotated)
 
 -- The values of a script that was read have 32 bits.
 pub values-fit : (bs : List ℕ) → AllBytes bs → (i : ℕ) → Fits (nodeAt (scriptIn bs) i .value)
 unfolding nodeAt
-values-fit bs bytes i = ⊎-elim inside outside (holds-or-fails (ltb i (length (scriptIn bs .nodes))))
-  where
-    inside : ltb i (length (scriptIn bs .nodes)) ≡ true → Fits (nodeAt (scriptIn bs) i .value)
-    inside e = record { within = read-fits bs bytes .nodes i (ltb-true _ _ e) .value }
-
-    outside : ltb i (length (scriptIn bs .nodes)) ≡ false → Fits (nodeAt (scriptIn bs) i .value)
-    outside e =
-        subst⁻¹ (λ (d : Node). Fits (d .value)) (List·getD-eq-default (scriptIn bs .nodes) blankNode (ltb-false _ _ e))
-        (record { within = omega arith })
+values-fit bs bytes =
+    everywhere (λ (d : Node). Fits (d .value)) blankNode (scriptIn bs .nodes) (record { within = omega arith })
+    (λ i l. record { within = read-fits bs bytes .nodes i l .value })
 
 -- Demand 3, last part: "wherever it fits a file, the checker accepts that file again". The file of the code that making an
--- accepted file leaves passes ALL of refusals 1 to 11, for settings of 32 bits and fuel within its limit.
+-- accepted file leaves passes all of refusals 1 to 11, for settings of 32 bits and fuel within its limit.
 pub accepted-again :
     (bs : List ℕ) → AllBytes bs → AcceptedFile bs → (zs : List ℤ) → ((i : ℕ) → Fits (getD zs i (pos 0))) → (fuel : ℕ) →
     fuel ≤ maxFuel → (c : Code) (k : ℕ) → specialized (scriptIn bs) zs fuel ≡ finished c k → fits c ≡ true →
     AcceptedFile (fileBytes (written (scriptIn bs) c))
 accepted-again bs bytes h zs settings fuel limit c k e f =
-    script-accepted-again (scriptIn bs) (script-passes bs bytes h) (h .annotated) (values-fit bs bytes) zs settings fuel limit c k e f
+    script-accepted-again (scriptIn bs) (script-passes bs bytes (h .read)) (h .annotated) (values-fit bs bytes) zs settings fuel limit c k e f

@@ -15,10 +15,10 @@ use Rattle.lambdamix.specs.Text.{ascii}
 use Rattle.lambdamix.specs.Structure.{orElse, structureRefusal, refusedUnless}
 use Rattle.script.specs.Bytes.{bytes16}
 use Rattle.script.specs.File.{headBytes, typeBytes, inputBytes, nodeBytes, records, fileBytes, typeOffset, inputOffset, nodeOffset, fileLength, headTypes, headInputs, headNodes, scriptIn}
-use Rattle.script.specs.Refusals.{refusedRecord, countsRight, contentRefusal, scriptRefusal, headMarked, markRefusal, earlier, bodyRefusal, fileRefusal}
+use Rattle.script.specs.Refusals.{refusedRecord, countsRight, contentRefusal, scriptRefusal, headMarked, markRefusal, earlier, bodyRefusal, fileRefusal, headRefusal}
 use Rattle.file.specs.Encodable.{AllBytes, Encodable}
 use Rattle.file.proofs.ByteLaws.{Stands, stands-left, stands-right, stands-both, stands-self, stands-whole, word16-at, stands16, word16-small}
-use Rattle.script.proofs.RefusalLaws.{neither, no-earlier, not-refused, pass-over, no-record}
+use Rattle.script.proofs.RefusalLaws.{neither, no-earlier, not-refused, pass-over, no-record, or-none}
 use Rattle.script.proofs.Numbered.{length-numbered}
 use Rattle.file.proofs.RecordLaws.{readFrom, wrongMark, records-length, records-read, records-marked, records-written, records-fit}
 use Rattle.file.proofs.Layouts.{begins-marked, mark-stands, typeLayout, inputLayout, nodeLayout}
@@ -89,9 +89,10 @@ module _ (s : Script) (fit : Encodable s) where
   nodes-count =
       word16-at (stands-right (bytes16 (length (s .inputs))) (bytes16 (length (s .nodes))) from-input-count 6 refl) (fit .nodeCount)
 
-  script-again : scriptIn (fileBytes s) ≡ s
+  -- Reading what was written gives the same script.
+  pub read-written : scriptIn (fileBytes s) ≡ s
   unfolding scriptIn typeOffset inputOffset nodeOffset nodeAt
-  script-again =
+  read-written =
       λ x. record { types = types x; inputs = inputs x; nodes = nodes x }
     where
       types : readFrom typeLayout (fileBytes s) 8 (headTypes (fileBytes s)) ≡ s .types
@@ -119,7 +120,7 @@ module _ (s : Script) (fit : Encodable s) where
   body-refusal =
       let marks : markRefusal (fileBytes s) (headTypes (fileBytes s)) (headInputs (fileBytes s)) (headNodes (fileBytes s)) ≡ none =
       rw (types-count, inputs-count, nodes-count) marks-right in
-      λ x. orElse (earlier (marks x) (contentRefusal (script-again x))) (structureRefusal (script-again x))
+      λ x. orElse (earlier (marks x) (contentRefusal (read-written x))) (structureRefusal (read-written x))
 
   long : 8 ≤ length (fileBytes s)
   unfolding fileLength nodeOffset
@@ -129,23 +130,25 @@ module _ (s : Script) (fit : Encodable s) where
       length (fileBytes s) ≡ fileLength (headTypes (fileBytes s)) (headInputs (fileBytes s)) (headNodes (fileBytes s))
   size-right = rw (types-count, inputs-count, nodes-count) (file-length s)
 
-  refused-as-script : fileRefusal (fileBytes s) ≡ scriptRefusal s
-  unfolding fileRefusal scriptRefusal
-  refused-as-script =
+  size-passes :
+      refusedUnless
+      (eqb (length (fileBytes s)) (fileLength (headTypes (fileBytes s)) (headInputs (fileBytes s)) (headNodes (fileBytes s)))) 1 (length (fileBytes s))
+      ≡ none
+  unfolding refusedUnless
+  size-passes = rw (eq-eqb _ _ size-right)
+
+  head-refusal : headRefusal (fileBytes s) ≡ refusedUnless (countsRight (length (s .types)) (length (s .inputs)) (length (s .nodes))) 3 0
+  unfolding headRefusal
+  head-refusal =
       pass-over 1 (length (fileBytes s)) _ (le-leb 8 (length (fileBytes s)) long)
       ∙ pass-over 2 0 _ head-right
-      ∙ (λ x. orElse (refusedUnless (countsRight (types-count x) (inputs-count x) (nodes-count x)) 3 0) (later x))
-    where
-      later :
-          orElse
-          (refusedUnless
-          (eqb (length (fileBytes s)) (fileLength (headTypes (fileBytes s)) (headInputs (fileBytes s)) (headNodes (fileBytes s))))
-          1 (length (fileBytes s))) (bodyRefusal (fileBytes s))
-          ≡ orElse (contentRefusal s) (structureRefusal s)
-      later =
-          pass-over 1 (length (fileBytes s)) (bodyRefusal (fileBytes s))
-          (eq-eqb _ _ size-right)
-          ∙ body-refusal
+      ∙ (λ x. orElse (refusedUnless (countsRight (types-count x) (inputs-count x) (nodes-count x)) 3 0) (size-passes x))
+      ∙ or-none _
+
+  -- The file of a script is refused as the script is: tables whose file the reader would refuse give that refusal.
+  pub file-refusal : fileRefusal (fileBytes s) ≡ scriptRefusal s
+  unfolding fileRefusal scriptRefusal
+  file-refusal = λ x. orElse (head-refusal x) (body-refusal x)
 
 -- ---- what was read is written
 
@@ -158,33 +161,32 @@ record Sound (bs : List ℕ) : Type 0 where
   nodes : wrongMark nodeLayout bs (8 + 6 * headTypes bs + 4 * headInputs bs) (headNodes bs) ≡ none
 
 sound : (bs : List ℕ) → fileRefusal bs ≡ none → Sound bs
-unfolding fileRefusal bodyRefusal markRefusal typeOffset inputOffset nodeOffset
+unfolding fileRefusal headRefusal bodyRefusal markRefusal typeOffset inputOffset nodeOffset
 sound bs e =
-    let after-length = neither _ _ e .1 in
-    let after-head = neither _ _ after-length in
-    let after-counts = neither _ _ (after-head .1) .1 in
-    let after-size = neither _ _ after-counts in
-    let body = neither _ _ (after-size .1) .0 in
-    let marks = neither _ _ (no-earlier _ _ body .0) in
+    let (h, b) = neither _ _ e in
+    let after-length = neither _ _ (neither _ _ h .1) in
+    let after-counts = neither _ _ (after-length .1) .1 in
+    let marks = neither _ _ (no-earlier _ _ (neither _ _ b .0) .0) in
     let later = neither _ _ (marks .1) in
     record {
-      head = not-refused _ _ _ (after-head .0);
-      size = eqb-true _ _ (not-refused _ _ _ (after-size .0));
+      head = not-refused _ _ _ (after-length .0);
+      size = eqb-true _ _ (not-refused _ _ _ after-counts);
       types = no-record _ _ _ (marks .0);
       inputs = no-record _ _ _ (later .0);
       nodes = no-record _ _ _ (later .1);
     }
 
-module _ (bs : List ℕ) (all : AllBytes bs) (right : Sound bs) where
-  the-counts :
-      (length (scriptIn bs .types) ≡ headTypes bs) × (length (scriptIn bs .inputs) ≡ headInputs bs) × (length (scriptIn bs .nodes) ≡ headNodes bs)
-  unfolding scriptIn
-  the-counts = (length-numbered _ 0 (headTypes bs), length-numbered _ 0 (headInputs bs), length-numbered _ 0 (headNodes bs))
+pub script-counts :
+    (bs : List ℕ) →
+    (length (scriptIn bs .types) ≡ headTypes bs) × (length (scriptIn bs .inputs) ≡ headInputs bs) × (length (scriptIn bs .nodes) ≡ headNodes bs)
+unfolding scriptIn
+script-counts bs = (length-numbered _ 0 (headTypes bs), length-numbered _ 0 (headInputs bs), length-numbered _ 0 (headNodes bs))
 
+module _ (bs : List ℕ) (all : AllBytes bs) (right : Sound bs) where
   head-written : Stands bs 0 (headBytes (scriptIn bs))
   unfolding headBytes ascii bytes16 headTypes headInputs headNodes
   head-written =
-      rw (the-counts .0, the-counts .1, the-counts .2)
+      rw (script-counts bs .0, script-counts bs .1, script-counts bs .2)
       (stands-both (ascii "HD") _ (mark-stands 72 68 (right .head)) 2 refl
       (stands-both (bytes16 (headTypes bs)) _ (stands16 all 2) 4 refl
       (stands-both (bytes16 (headInputs bs)) _ (stands16 all 4) 6 refl (stands16 all 6))))
@@ -198,22 +200,14 @@ module _ (bs : List ℕ) (all : AllBytes bs) (right : Sound bs) where
       stands-whole
       (stands-both (headBytes (scriptIn bs)) _ head-written 8 (omega (arith, head-length (scriptIn bs)))
       (stands-both (records typeBytes types) _ (records-written typeLayout 8 (headTypes bs) all (right .types))
-      (8 + 6 * headTypes bs) (omega (arith, records-length typeLayout types, the-counts .0))
+      (8 + 6 * headTypes bs) (omega (arith, records-length typeLayout types, script-counts bs .0))
       (stands-both (records inputBytes inputs) (records nodeBytes nodes)
       (records-written inputLayout (8 + 6 * headTypes bs) (headInputs bs) all (right .inputs))
-      (8 + 6 * headTypes bs + 4 * headInputs bs) (omega (arith, records-length inputLayout inputs, the-counts .1))
+      (8 + 6 * headTypes bs + 4 * headInputs bs) (omega (arith, records-length inputLayout inputs, script-counts bs .1))
       (records-written nodeLayout (8 + 6 * headTypes bs + 4 * headInputs bs) (headNodes bs) all (right .nodes)))))
-      (file-length (scriptIn bs) ∙ rw (the-counts .0, the-counts .1, the-counts .2) (sym (right .size)))
+      (file-length (scriptIn bs) ∙ rw (script-counts bs .0, script-counts bs .1, script-counts bs .2) (sym (right .size)))
 
 -- ---- the theorems
-
--- Reading what was written gives the same script.
-pub read-written : (s : Script) → Encodable s → scriptIn (fileBytes s) ≡ s
-read-written = script-again
-
--- The file of a script is refused as the script is: tables whose file the reader would refuse give that refusal.
-pub file-refusal : (s : Script) → Encodable s → fileRefusal (fileBytes s) ≡ scriptRefusal s
-file-refusal = refused-as-script
 
 -- What bytes hold fits the file's widths.
 pub read-fits : (bs : List ℕ) → AllBytes bs → Encodable (scriptIn bs)
@@ -231,6 +225,10 @@ read-fits bs all =
 -- Writing what was read, from bytes that no refusal holds of, gives the same bytes.
 pub written-read : (bs : List ℕ) → AllBytes bs → fileRefusal bs ≡ none → fileBytes (scriptIn bs) ≡ bs
 written-read bs all e = written bs all (sound bs e)
+
+-- The script of bytes that no refusal holds of is refused by nothing.
+pub script-passes : (bs : List ℕ) → AllBytes bs → fileRefusal bs ≡ none → scriptRefusal (scriptIn bs) ≡ none
+script-passes bs all e = sym (file-refusal (scriptIn bs) (read-fits bs all)) ∙ ap fileRefusal (written-read bs all e) ∙ e
 
 -- Each script has one file: two files that no refusal holds of and that hold the same script are the same bytes.
 pub one-file :

@@ -7,12 +7,12 @@ use Rattle.lambdamix.proofs.Computing.{computing}
 use Rattle.lambdamix.specs.Structure.{refusedUnless}
 use Rattle.script.specs.Bytes.{byteAt, word16, word32, signedBy, signed32, bits32, bytes16, bytes32}
 use Rattle.script.specs.File.{headBytes, typeBytes, inputBytes, nodeBytes, records, fileBytes, typeOffset, inputOffset, nodeOffset, fileLength, headTypes, headInputs, headNodes, numbered, typeFrom, inputFrom, nodeFrom, scriptIn}
-use Rattle.script.specs.Refusals.{refusedRecord, countsRight, samePair, otherPair, isNone, typeFits, inputFits, fieldRight, fieldsRight, nodeFits, contentOf, contentRefusal, scriptRefusal, marked, markRefusal, earlierBy, earlier, bodyRefusal, fileRefusal}
+use Rattle.script.specs.Refusals.{refusedRecord, countsRight, samePair, otherPair, isNone, typeFits, inputFits, fieldRight, fieldsRight, nodeFits, contentOf, contentRefusal, scriptRefusal, marked, markRefusal, earlierBy, earlier, bodyRefusal, headRefusal, fileRefusal}
 use Rattle.file.specs.FileTrials.{shownOf, shownFrom, shownFromFile}
 
 -- one name that opens the definitions of files
-unfoldable reading : Unit {0}
-unfolding byteAt word16 word32 signedBy signed32 bits32 bytes16 bytes32 headBytes typeBytes inputBytes nodeBytes records fileBytes typeOffset inputOffset nodeOffset fileLength headTypes headInputs headNodes numbered typeFrom inputFrom nodeFrom scriptIn refusedUnless refusedRecord countsRight samePair otherPair isNone typeFits inputFits fieldRight fieldsRight nodeFits contentOf contentRefusal scriptRefusal marked markRefusal earlierBy earlier bodyRefusal fileRefusal shownOf shownFrom shownFromFile
+unfoldable pub reading : Unit {0}
+unfolding byteAt word16 word32 signedBy signed32 bits32 bytes16 bytes32 headBytes typeBytes inputBytes nodeBytes records fileBytes typeOffset inputOffset nodeOffset fileLength headTypes headInputs headNodes numbered typeFrom inputFrom nodeFrom scriptIn refusedUnless refusedRecord countsRight samePair otherPair isNone typeFits inputFits fieldRight fieldsRight nodeFits contentOf contentRefusal scriptRefusal marked markRefusal earlierBy earlier bodyRefusal headRefusal fileRefusal shownOf shownFrom shownFromFile
 reading = tt
 
 -- "Input A (94 bytes)"

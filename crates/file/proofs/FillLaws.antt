@@ -14,8 +14,8 @@ use Rattle.lambdamix.proofs.Tests.{and-both}
 use Rattle.script.specs.declared.Counts.{Counts}
 use Rattle.script.specs.Bytes.{byteAt, word16, word32, signed32}
 use Rattle.script.specs.File.{numbered, typeOffset, inputOffset, nodeOffset, typeFrom, inputFrom, nodeFrom, headTypes, headInputs, headNodes, scriptIn}
-use Rattle.script.specs.Tables.{Tables, rowType, rowInput, rowNode, tablesScript, over, filled}
-use Rattle.script.specs.Columns.{tablesOf, enough}
+use Rattle.script.specs.Tables.{Tables, rowType, rowInput, rowNode, tablesScript, over, filled, tablesOf}
+use Rattle.script.specs.Columns.{enough}
 use Rattle.file.specs.Heads.{headCounts, scriptBy, FillFits, noCounts}
 use Rattle.script.proofs.Numbered.{length-numbered, numbered-whole, numbered-same, map-numbered}
 

@@ -1,5 +1,5 @@
 -- A loop that fills a column from the front: what the column holds as it goes, and at the end. Assumes nothing.
-use Prim.Native.Nat.{ℕ, zero, suc, _+_, _<_, _≤_}
+use Prim.Native.Nat.{ℕ, suc, _+_, _<_, _≤_}
 use mathlib.Core.Path.{_≡_, refl, sym, ap, _∙_}
 use mathlib.Core.List.{List, [], _∷_, _++_}
 use native.Mathlib.Nat.{zero-add}
@@ -9,22 +9,16 @@ use lib.ListN.{length, getD, drop, set, length-append, length-drop}
 use lib.Seq.{drop-cons, set-at, append-snoc}
 use Rattle.script.specs.File.{numbered}
 use Rattle.script.specs.Tables.{over}
-use Rattle.script.proofs.Numbered.{length-numbered}
+use Rattle.script.proofs.Numbered.{length-numbered, numbered-more}
 
 module _ {A : Type 0} (f : ℕ → A) where
-  one-more : (i n : ℕ) → numbered f i (suc n) ≡ numbered f i n ++ (f (i + n) ∷ [])
-  unfolding numbered
-  one-more i zero = ap (λ (k : ℕ). f k ∷ []) (omega arith)
-  one-more i (suc n) =
-      ap (_∷_ (f i)) (one-more (suc i) n ∙ ap (λ (k : ℕ). numbered f (suc i) n ++ (f k ∷ [])) (omega arith))
-
   over-is : (n : ℕ) (old : List A) → over (numbered f 0 n) old ≡ numbered f 0 n ++ drop n old
   unfolding over
   over-is n old = rw (length-numbered f 0 n)
 
   over-more : (j : ℕ) (old : List A) → j < length old → set (over (numbered f 0 j) old) j (f j) ≡ over (numbered f 0 (suc j)) old
   over-more j old h =
-      rw (over-is j old, over-is (suc j) old, drop-cons old j (f j) h, one-more 0 j)
+      rw (over-is j old, over-is (suc j) old, drop-cons old j (f j) h, numbered-more f 0 j)
       (set-at (numbered f 0 j) (getD old j (f j)) (drop (suc j) old) (f j) j (length-numbered f 0 j)
       ∙ sym (ap (λ (k : ℕ). numbered f 0 j ++ (f k ∷ []) ++ drop (suc j) old) (zero-add j) ∙ append-snoc (numbered f 0 j) (f j) (drop (suc j) old)))
 

@@ -1,24 +1,15 @@
 -- Laws of a file's head: its refusal by its four tests. Assumes nothing.
 use Prim.Native.Nat.{ℕ}
-use mathlib.Core.Path.{_≡_, refl, sym, ap, _∙_}
+use mathlib.Core.Path.{_≡_, sym, ap, _∙_}
 use mathlib.Core.Bool.{Bool}
 use mathlib.Core.List.{List}
-use mathlib.Core.Option.{Option, none, some}
 use lib.ListN.{length}
 use lib.Dec.{leb, eqb}
 use Rattle.lambdamix.specs.Structure.{orElse, refusedUnless}
 use Rattle.script.specs.declared.Counts.{Counts}
 use Rattle.script.specs.File.{fileLength, headTypes, headInputs, headNodes}
-use Rattle.script.specs.Refusals.{countsRight, headMarked, bodyRefusal, fileRefusal}
-use Rattle.file.specs.Heads.{headCounts, headRefusal}
-
-regroup : {A : Type 0} (a b c d e : Option A)
-    → orElse a (orElse b (orElse c (orElse d e))) ≡ orElse (orElse a (orElse b (orElse c d))) e
-unfolding orElse
-regroup none none none d e = refl
-regroup none none (some c) d e = refl
-regroup none (some b) c d e = refl
-regroup (some a) b c d e = refl
+use Rattle.script.specs.Refusals.{countsRight, headMarked, headRefusal}
+use Rattle.file.specs.Heads.{headCounts}
 
 module _ (bs : List ℕ) where
   pub head-by-tests : {a b c d : Bool} → leb 8 (length bs) ≡ a → headMarked bs 0 ≡ b
@@ -38,10 +29,3 @@ module _ (bs : List ℕ) where
     pub length-told : {o : ℕ} → o ≡ fileLength (n .types) (n .inputs) (n .nodes) → o ≡ fileLength (headTypes bs) (headInputs bs) (headNodes bs)
     unfolding headCounts
     length-told p = p ∙ ap (λ (m : Counts). fileLength (m .types) (m .inputs) (m .nodes)) e
-
-  -- The head's refusals come first.
-  pub file-by-head : fileRefusal bs ≡ orElse (headRefusal bs) (bodyRefusal bs)
-  unfolding fileRefusal headRefusal
-  file-by-head =
-      regroup (refusedUnless (leb 8 (length bs)) 1 (length bs)) (refusedUnless (headMarked bs 0) 2 0)
-      (refusedUnless (countsRight (headTypes bs) (headInputs bs) (headNodes bs)) 3 0) _ (bodyRefusal bs)

@@ -21,14 +21,14 @@ use Rattle.script.specs.declared.Verdict.the-variants as Verdict
 use Rattle.script.specs.declared.Reading.{Reading}
 use Rattle.script.specs.declared.Reading.the-variants as Reading
 use Rattle.script.specs.File.{headTypes, headInputs, headNodes, scriptIn}
-use Rattle.script.specs.Refusals.{countsRight, contentOf, contentRefusal, scriptRefusal, markRefusal, earlier, earlierBy, bodyRefusal, fileRefusal}
+use Rattle.script.specs.Refusals.{countsRight, contentOf, contentRefusal, scriptRefusal, markRefusal, earlier, earlierBy, bodyRefusal, fileRefusal, headRefusal}
 use Rattle.script.specs.Tables.{Tables, tablesScript, filled, longEnough, tablesRefusal, readRefusal, readTables}
 use Rattle.script.specs.Replies.{refusalOf, reading, Reads}
 use Rattle.script.specs.Columns.{enough}
 use Rattle.script.proofs.Numbered.{length-numbered}
 use Rattle.script.proofs.RefusalLaws.{neither, not-refused, pass-over, either-some, node-number, record-number}
 use Rattle.script.proofs.Sound.{in-limits}
-use Rattle.file.specs.Heads.{headCounts, headRefusal, marksFirst, scriptBy, FillFits, readReply, countsRead}
+use Rattle.file.specs.Heads.{headCounts, marksFirst, scriptBy, FillFits, readReply, countsRead}
 use Rattle.file.proofs.FillLaws.{file-held, fill-fits, none-fits, by-head, by-none}
 
 -- ---- the columns of the check
@@ -58,7 +58,7 @@ own-fits bs {n} x e h p r i k a b c v =
 
 -- and are long enough for its counts
 fits-long : (n : Counts) (x : Tables) → FillFits n x → longEnough (n .types) (n .inputs) (n .nodes) x ≡ true
-unfolding longEnough
+unfolding longEnough enough
 fits-long n x f =
     simp (
       le-leb _ _ (f .parameters),

@@ -1,6 +1,6 @@
 -- Stores in a row: bytes set from a place on, one part after the other, and records one after the other; past the end they
 -- change nothing. Assumes nothing.
-use Prim.Native.Nat.{ℕ, zero, suc, _+_, _*_, _≤_, _<_}
+use Prim.Native.Nat.{ℕ, suc, _+_, _*_, _≤_, _<_}
 use mathlib.Core.Path.{_≡_, refl, sym, ap, _∙_, subst}
 use mathlib.Core.List.{List, [], _∷_, _++_, append-assoc, append-nil}
 use native.Mathlib.Nat.{zero-add}
@@ -11,7 +11,7 @@ use lib.Seq.{sets, sets-eq, set-out, length-sets}
 use Rattle.script.specs.File.{records, numbered}
 use Rattle.script.specs.Tables.{over}
 use Rattle.file.specs.Written.{Put, PutWhole}
-use Rattle.script.proofs.Numbered.{length-numbered}
+use Rattle.script.proofs.Numbered.{length-numbered, numbered-more}
 use Rattle.file.proofs.RecordLaws.{Layout, records-length}
 
 -- ---- bytes
@@ -75,19 +75,12 @@ records-append f [] ys = refl
 records-append f (x ∷ xs) ys =
     ap (λ (r : List ℕ). f x ++ r) (records-append f xs ys) ∙ sym (append-assoc (f x) (records f xs) (records f ys))
 
-numbered-one-more : {A : Type 0} (g : ℕ → A) (i n : ℕ) → numbered g i (suc n) ≡ numbered g i n ++ (g (i + n) ∷ [])
-unfolding numbered
-numbered-one-more g i zero = ap (λ (k : ℕ). g k ∷ []) (omega arith)
-numbered-one-more {A} g i (suc n) =
-    ap {B = List A} (λ r. g i ∷ r)
-    (numbered-one-more g (suc i) n ∙ ap (λ (k : ℕ). numbered g (suc i) n ++ (g k ∷ [])) (omega arith))
-
 records-one-more :
     {A : Type 0} (f : A → List ℕ) (g : ℕ → A) (j : ℕ)
     → records f (numbered g 0 (j + 1)) ≡ records f (numbered g 0 j) ++ f (g j)
 unfolding records
 records-one-more f g j =
-    rw (add-one j, numbered-one-more g 0 j, records-append f (numbered g 0 j) (g (0 + j) ∷ []), append-nil (f (g (0 + j))), zero-add j)
+    rw (add-one j, numbered-more g 0 j, records-append f (numbered g 0 j) (g (0 + j) ∷ []), append-nil (f (g (0 + j))), zero-add j)
 
 -- the records of the first j things stand from o on; the next is set behind them
 put-record :
@@ -100,11 +93,15 @@ put-record L g o j p q =
 
 -- ---- a loop that puts records from o on: after j of n
 
+-- the first record of any kind stands below this place
+abbrev pub firstLimit : ℕ
+firstLimit = 8 + 10 * 65536
+
 pub record Progress {A : Type 0} (L : Layout A) (g : ℕ → A) (o n : ℕ) (before after : List ℕ) (j : ℕ) : Type 0 where
   pub bound : j ≤ n
   -- the counts have 16 bits, so no place wraps
   pub few : n < 65536
-  pub low : o < 1000000
+  pub low : o < firstLimit
   pub kept : length after ≡ length before
   pub put : Put before o (records (L .write) (numbered g 0 j)) after
 
@@ -116,7 +113,7 @@ pub put-same : {l m vs ws : List ℕ} {i : ℕ} → vs ≡ ws → Put l i vs m �
 put-same {l} {m} {vs} {ws} {i} e p = subst (λ (bs : List ℕ). Put l i bs m) e p
 
 module _ {A : Type 0} {L : Layout A} {g : ℕ → A} {o n : ℕ} {before : List ℕ} where
-  pub progress-none : n < 65536 → o < 1000000 → Progress L g o n before before 0
+  pub progress-none : n < 65536 → o < firstLimit → Progress L g o n before before 0
   unfolding records numbered
   progress-none f l = record { bound = omega arith; few = f; low = l; kept = refl; put = record { puts = refl } }
 
@@ -133,5 +130,6 @@ module _ {A : Type 0} {L : Layout A} {g : ℕ → A} {o n : ℕ} {before : List 
       }
 
   pub progress-all :
-      {after : List ℕ} {j : ℕ} → Progress L g o n before after j → n ≤ j → Put before o (records (L .write) (numbered g 0 n)) after
-  progress-all {j = j} p l = let e : j ≡ n = omega (arith, p .bound) in rw (← e) (p .put)
+      {after : List ℕ} {i j : ℕ} → Progress L g o n before after j → n ≤ j → o ≡ i
+      → Put before i (records (L .write) (numbered g 0 n)) after
+  progress-all {j = j} p l h = let e : j ≡ n = omega (arith, p .bound) in rw (← h, ← e) (p .put)

@@ -3,19 +3,10 @@
 use Prim.Native.Nat.{ℕ, _+_, _≤_, _<_}
 use mathlib.Core.Path.{_≡_}
 use mathlib.Core.List.{List, _∷_, _++_}
-use mathlib.Core.Option.{Option}
 use lib.ListN.{length}
 use lib.Seq.{sets}
-use lib.Dec.{leb}
-use Rattle.lambdamix.specs.Script.{Script}
 use Rattle.lambdamix.specs.Text.{ascii}
-use Rattle.lambdamix.specs.Checker.{Refusal}
-use Rattle.lambdamix.specs.Structure.{refusedUnless}
-use Rattle.script.specs.declared.Writing.{Writing}
 use Rattle.script.specs.Bytes.{bytes16, bytes32}
-use Rattle.script.specs.File.{fileBytes}
-use Rattle.script.specs.Tables.{writtenOutput}
-use Rattle.script.specs.Replies.{writing}
 
 -- the head for three counts
 unfoldable pub headRow : ℕ → ℕ → ℕ → List ℕ
@@ -33,12 +24,3 @@ pub record Put (before : List ℕ) (i : ℕ) (bs : List ℕ) (after : List ℕ) 
 pub record PutWhole (before : List ℕ) (i : ℕ) (bs : List ℕ) (after : List ℕ) : Type 0 where
   pub puts : i + length bs ≤ length before → Put before i bs after
   pub none : length before < i + length bs → after ≡ before
-
--- "then a short output 21"
-unfoldable pub shortOutput : Script → List ℕ → Option Refusal
-shortOutput s out = refusedUnless (leb (length (fileBytes s)) (length out)) 21 0
-
--- the writer's answer and output for a script that passed its refusals
-pub record Fitted (s : Script) (before after : List ℕ) (r : Writing) : Type 0 where
-  pub reply : r ≡ writing (shortOutput s before) s
-  pub output : after ≡ writtenOutput (shortOutput s before) s before

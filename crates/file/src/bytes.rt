@@ -27,7 +27,7 @@ pub fn word16(s: &[u8], i: usize) -> u16
     0
 }
 
-fn word32(s: &[u8], i: usize) -> u32
+pub fn word32(s: &[u8], i: usize) -> u32
     ensures { λ r. ⌜ r ≡ word32 (now (s .entry)) i ⌝ }
 {
     if i < s.len() {

@@ -23,10 +23,10 @@ ghost use mathlib.Core.Path.{_≡_};
 ghost use mathlib.Core.Bool.{true};
 ghost use Rattle.script.specs.Replies.{refusalOf, Reads};
 ghost use Rattle.script.specs.File.{headTypes, headInputs, headNodes};
-ghost use Rattle.script.specs.Refusals.{countsRight, bodyRefusal, fileRefusal};
-ghost use Rattle.script.specs.Tables.{filled};
-ghost use Rattle.script.specs.Columns.{tablesOf, enough};
-ghost use Rattle.file.specs.Heads.{headCounts, headRefusal, marksFirst, scriptBy, FillFits, readReply, countsRead};
+ghost use Rattle.script.specs.Refusals.{headRefusal, countsRight, bodyRefusal, fileRefusal};
+ghost use Rattle.script.specs.Tables.{filled, tablesOf};
+ghost use Rattle.script.specs.Columns.{enough};
+ghost use Rattle.file.specs.Heads.{headCounts, marksFirst, scriptBy, FillFits, readReply, countsRead};
 
 // The counts in a file's head.
 pub fn head_counts(file: &[u8]) -> Counts

@@ -6,17 +6,20 @@ use script::Verdict;
 use script::Writing;
 use script::column;
 use script::place::file_size;
+use script::place::input_offset;
+use script::place::node_offset;
+use script::place::type_offset;
 use script::word::bits;
 use tables::refusal::tables_refusal;
-ghost use Prim.Native.Nat.{_+_, _*_, _≤_};
+ghost use Prim.Native.Nat.{_+_, _≤_};
 ghost use lib.ListN.{length};
 ghost use mathlib.Core.List.{[], _∷_};
 ghost use Rattle.script.specs.Columns.{inputsIn, nodesIn, typesIn};
 ghost use Rattle.script.specs.Bytes.{bytes16, bytes32};
-ghost use Rattle.script.specs.File.{typeBytes, inputBytes, nodeBytes, records, numbered, fileBytes, fileLength};
-ghost use Rattle.script.specs.Tables.{tablesScript};
-ghost use Rattle.script.specs.Replies.{Writes};
-ghost use Rattle.file.specs.Written.{Put, PutWhole, Fitted, headRow, nodeParts};
+ghost use Rattle.script.specs.File.{typeBytes, inputBytes, nodeBytes, records, numbered, fileBytes, typeOffset, inputOffset, nodeOffset, fileLength};
+ghost use Rattle.script.specs.Tables.{tablesScript, tablesOf};
+ghost use Rattle.script.specs.Replies.{Fitted, Writes};
+ghost use Rattle.file.specs.Written.{Put, PutWhole, headRow, nodeParts};
 
 // Two bytes at a place.
 fn pair_at(out: &mut [u8], at: usize, first: u8, second: u8)
@@ -112,22 +115,23 @@ pub fn node_at(out: &mut [u8], at: u32, kind: u8, a: u16, b: u16, c: u16, value:
 
 // All records of a kind, one after the other, where the counts place them.
 fn types_at(out: &mut [u8], n: Counts, parameters: &[u16], results: &[u16])
-    ensures { λ r. ⌜ Put (now (out .entry)) 8 (records typeBytes (numbered (typesIn (now (parameters .entry)) (now (results .entry))) 0 (n .types))) (now (out .exit)) ⌝ }
+    ensures { λ r. ⌜ Put (now (out .entry)) (typeOffset 0) (records typeBytes (numbered (typesIn (now (parameters .entry)) (now (results .entry))) 0 (n .types))) (now (out .exit)) ⌝ }
 {
+    let first = type_offset(0) as usize;
     let count = n.types as usize;
     let mut j: usize = 0;
     while j < count {
         let parameter = TypeNumber(column::at16(parameters, j));
         let result = TypeNumber(column::at16(results, j));
-        type_at(out, 8 + 6 * j, parameter, result);
+        type_at(out, first + 6 * j, parameter, result);
         j += 1;
     }
 }
 
 pub fn inputs_at(out: &mut [u8], n: Counts, inputs: &[u16])
-    ensures { λ r. ⌜ Put (now (out .entry)) (8 + 6 * n .types) (records inputBytes (numbered (inputsIn (now (inputs .entry))) 0 (n .inputs))) (now (out .exit)) ⌝ }
+    ensures { λ r. ⌜ Put (now (out .entry)) (inputOffset (n .types) 0) (records inputBytes (numbered (inputsIn (now (inputs .entry))) 0 (n .inputs))) (now (out .exit)) ⌝ }
 {
-    let first = 8 + 6 * (n.types as usize);
+    let first = input_offset(n.types, 0) as usize;
     let count = n.inputs as usize;
     let mut j: usize = 0;
     while j < count {
@@ -147,9 +151,9 @@ fn nodes_at(
     values: &[i32],
 )
     requires { ⌜ fileLength (n .types) (n .inputs) (n .nodes) ≤ length (now out) ⌝ }
-    ensures { λ r. ⌜ Put (now (out .entry)) (8 + 6 * n .types + 4 * n .inputs) (records nodeBytes (numbered (nodesIn (now (kinds .entry)) (now (a .entry)) (now (b .entry)) (now (c .entry)) (now (values .entry))) 0 (n .nodes))) (now (out .exit)) ⌝ }
+    ensures { λ r. ⌜ Put (now (out .entry)) (nodeOffset (n .types) (n .inputs) 0) (records nodeBytes (numbered (nodesIn (now (kinds .entry)) (now (a .entry)) (now (b .entry)) (now (c .entry)) (now (values .entry))) 0 (n .nodes))) (now (out .exit)) ⌝ }
 {
-    let first = 8 + 6 * (n.types as usize) + 4 * (n.inputs as usize);
+    let first = node_offset(n.types, n.inputs, 0) as usize;
     let count = n.nodes as usize;
     let mut j: usize = 0;
     while j < count {
@@ -177,7 +181,7 @@ fn emit(
     out: &mut [u8],
 )
     requires { ⌜ fileLength (n .types) (n .inputs) (n .nodes) ≤ length (now out) ⌝ }
-    ensures { λ r. ⌜ Put (now (out .entry)) 0 (fileBytes (tablesScript (n .types) (n .inputs) (n .nodes) (record { parameters = now (parameters .entry); results = now (results .entry); inputs = now (inputs .entry); kinds = now (kinds .entry); a = now (a .entry); b = now (b .entry); c = now (c .entry); values = now (values .entry) }))) (now (out .exit)) ⌝ }
+    ensures { λ r. ⌜ Put (now (out .entry)) 0 (fileBytes (tablesScript (n .types) (n .inputs) (n .nodes) (tablesOf (now (parameters .entry)) (now (results .entry)) (now (inputs .entry)) (now (kinds .entry)) (now (a .entry)) (now (b .entry)) (now (c .entry)) (now (values .entry))))) (now (out .exit)) ⌝ }
 {
     head_at(out, 0, n);
     types_at(out, n, parameters, results);
@@ -198,7 +202,7 @@ fn fit(
     values: &[i32],
     out: &mut [u8],
 ) -> Writing
-    ensures { λ r. ⌜ Fitted (tablesScript (n .types) (n .inputs) (n .nodes) (record { parameters = now (parameters .entry); results = now (results .entry); inputs = now (inputs .entry); kinds = now (kinds .entry); a = now (a .entry); b = now (b .entry); c = now (c .entry); values = now (values .entry) })) (now (out .entry)) (now (out .exit)) r ⌝ }
+    ensures { λ r. ⌜ Fitted (fileBytes (tablesScript (n .types) (n .inputs) (n .nodes) (tablesOf (now (parameters .entry)) (now (results .entry)) (now (inputs .entry)) (now (kinds .entry)) (now (a .entry)) (now (b .entry)) (now (c .entry)) (now (values .entry))))) (now (out .entry)) (now (out .exit)) r ⌝ }
 {
     let size = file_size(n);
     if size <= out.len() {
@@ -225,7 +229,7 @@ pub fn write(
     values: &[i32],
     out: &mut [u8],
 ) -> Writing
-    ensures { λ r. ⌜ Writes n (record { parameters = now (parameters .entry); results = now (results .entry); inputs = now (inputs .entry); kinds = now (kinds .entry); a = now (a .entry); b = now (b .entry); c = now (c .entry); values = now (values .entry) }) (now (out .entry)) (now (out .exit)) r ⌝ }
+    ensures { λ r. ⌜ Writes n (tablesOf (now (parameters .entry)) (now (results .entry)) (now (inputs .entry)) (now (kinds .entry)) (now (a .entry)) (now (b .entry)) (now (c .entry)) (now (values .entry))) (now (out .entry)) (now (out .exit)) r ⌝ }
 {
     match tables_refusal(n, parameters, results, inputs, kinds, a, b, c, values) {
         Verdict::Passed => fit(n, parameters, results, inputs, kinds, a, b, c, values, out),

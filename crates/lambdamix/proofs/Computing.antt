@@ -1,5 +1,5 @@
 -- One name that opens every definition of the calculus, for proofs that compute with whole scripts. Assumes nothing.
-use Rattle.lambdamix.specs.Limits.{maxTypes, maxInputs, maxNodes, maxHeight, maxDepth, maxFuel}
+use Rattle.lambdamix.specs.Limits.{maxTypes, maxInputs, maxNodes, maxHeight, maxDepth, maxFuel, programFuel}
 use Rattle.lambdamix.specs.Arithmetic.{settle, divideBy, arithmetic}
 use Rattle.lambdamix.specs.Falling.{guarded, below, fallingBy, falling}
 use Rattle.lambdamix.specs.Script.{inputCount, nodeCount, root, nodeAt, rows, rowOf, fields, ifChild, childFields, children}
@@ -18,5 +18,5 @@ use Rattle.lambdamix.specs.Trials.{shownReply, replyBy, shown, inputA, i
 
 -- `unfolding computing` opens all that its own line names
 unfoldable pub computing : Unit {0}
-unfolding maxTypes maxInputs maxNodes maxHeight maxDepth maxFuel settle divideBy arithmetic guarded below fallingBy falling inputCount nodeCount root nodeAt rows rowOf fields ifChild childFields children arity childAt operatorOf build terms treeStep tree height sameType typeBy typeStep typeOf typeCount someType listed typeAtBy typeAt inputTypeBy inputType contextFrom inputContext lowerBy lower both own rule provided varRule liftRule abstrBy abstrRule applyRule fixRule ifRule opRule abstrDynRule allDynamic dynRule gather check rootRule checkedRoot annotationRefusal firstBy firstFailing refusedAt orElse oneIf occurrences uses usedOnce useRefusal lowEnough heightRefusal lowestBy lowest member unlessBound unbound scopeRefusal structureRefusal size codeHeight fits operatorNumber formNode top tops nodesFrom written valueAtBy valueAt stopNumber stopPlace andThen _>>=_ give halt wantNumber wantCode wantFunction found nodeOf jobPlace exactly branchBy branch fresh apply unfoldOnce visitAll visited performed run inputValue settingsAfter environmentFrom inputEnvironment staticInputs rootAnswer rootRun specialized madeBy answerReply refusedUnless callRefusal unlessRefused make bareRun ascii digitsBy digitsStep digits decimal nameBy nameText operatorText formerText spaced group termText listing shownReply replyBy shown inputA inputAWithoutLift lowestByMinusOne liftOfFive capturing trials
+unfolding maxTypes maxInputs maxNodes maxHeight maxDepth maxFuel programFuel settle divideBy arithmetic guarded below fallingBy falling inputCount nodeCount root nodeAt rows rowOf fields ifChild childFields children arity childAt operatorOf build terms treeStep tree height sameType typeBy typeStep typeOf typeCount someType listed typeAtBy typeAt inputTypeBy inputType contextFrom inputContext lowerBy lower both own rule provided varRule liftRule abstrBy abstrRule applyRule fixRule ifRule opRule abstrDynRule allDynamic dynRule gather check rootRule checkedRoot annotationRefusal firstBy firstFailing refusedAt orElse oneIf occurrences uses usedOnce useRefusal lowEnough heightRefusal lowestBy lowest member unlessBound unbound scopeRefusal structureRefusal size codeHeight fits operatorNumber formNode top tops nodesFrom written valueAtBy valueAt stopNumber stopPlace andThen _>>=_ give halt wantNumber wantCode wantFunction found nodeOf jobPlace exactly branchBy branch fresh apply unfoldOnce visitAll visited performed run inputValue settingsAfter environmentFrom inputEnvironment staticInputs rootAnswer rootRun specialized madeBy answerReply refusedUnless callRefusal unlessRefused make bareRun ascii digitsBy digitsStep digits decimal nameBy nameText operatorText formerText spaced group termText listing shownReply replyBy shown inputA inputAWithoutLift lowestByMinusOne liftOfFive capturing trials
 computing = tt

@@ -1,4 +1,4 @@
--- The limits of paper 01, "Script file" and "Making". Each stands here alone. Assumes nothing.
+-- The limits of paper 01, "Script file", "Making" and "Listing and program". Each stands here alone. Assumes nothing.
 use Prim.Native.Nat.{ℕ}
 
 -- "Limits: 64 listed types, 16 inputs, 1 to 4,096 nodes, height 256"
@@ -21,3 +21,11 @@ maxDepth = 2000
 -- "13: fuel above 16,000"
 unfoldable pub maxFuel : ℕ
 maxFuel = 16000
+
+-- "its fuel is 4,000"
+unfoldable pub programFuel : ℕ
+programFuel = 4000
+
+-- "no listing passes 65,536 bytes"
+unfoldable pub maxBytes : ℕ
+maxBytes = 65536

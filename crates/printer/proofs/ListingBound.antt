@@ -10,7 +10,7 @@ use native.Mathlib.Omega.{arith}
 use lib.ListN.{length, getD, length-append}
 use lib.Dec.{ltb, eqb}
 use borrow.Author.Tests.{ltb-true, ltb-false, lt-ltb, le-ltb, le-leb, eq-eqb, eqb-true, eqb-false}
-use Rattle.lambdamix.specs.Limits.{maxNodes}
+use Rattle.lambdamix.specs.Limits.{maxNodes, maxBytes}
 use Rattle.lambdamix.specs.Falling.{guarded, below}
 use Rattle.lambdamix.specs.Script.{Script, Node, nodeAt, nodeCount, inputCount, root, children, blankNode}
 use Rattle.lambdamix.specs.Checker.{Refusal}
@@ -24,12 +24,12 @@ use Rattle.file.specs.Encodable.{Encodable, LentTables}
 use Rattle.file.proofs.WriterRefusals.{lent-encodable}
 use Rattle.script.specs.declared.Counts.{Counts}
 use Rattle.script.specs.Refusals.{scriptRefusal}
-use Rattle.script.specs.Tables.{Tables, tablesRefusal}
+use Rattle.script.specs.Tables.{Tables, tablesRefusal, roomRefusal}
 use Rattle.script.proofs.RefusalLaws.{neither}
 use Rattle.script.proofs.Sound.{Sound, sound}
 use Rattle.tables.proofs.Agreement.{children-fall}
 use Rattle.printer.specs.Nodes.{nodesText}
-use Rattle.printer.specs.Answers.{roomRefusal, tablesText, listRefusal}
+use Rattle.printer.specs.Answers.{tablesText, listRefusal}
 use Rattle.printer.proofs.NodeLaws.{node-step}
 use Rattle.printer.proofs.Trees.{tree-text}
 use Rattle.printer.proofs.OwnBytes.{total, own-bytes}
@@ -168,19 +168,19 @@ listing-bytes s fits e =
     (omega (arith, root-most s (λ i. length (text s fits h i)) h (node-bytes s fits h)))
 
 -- "no listing passes 65,536 bytes"
-pub listing-bound : (s : Script) → Encodable s → scriptRefusal s ≡ none → length (listing s) ≤ 65536
-unfolding maxNodes
+pub listing-bound : (s : Script) → Encodable s → scriptRefusal s ≡ none → length (listing s) ≤ maxBytes
+unfolding maxNodes maxBytes
 listing-bound s fits e = omega (arith, listing-bytes s fits e, sound s e .within .nodes)
 
 module _ (n : Counts) (x : Tables) (lent : LentTables (n .types) (n .inputs) (n .nodes) x) where
   -- The listing of lent tables that 1 to 8 do not refuse has at most 65,536 bytes.
-  lent-bound : tablesRefusal (n .types) (n .inputs) (n .nodes) x ≡ none → length (tablesText n x) ≤ 65536
+  lent-bound : tablesRefusal (n .types) (n .inputs) (n .nodes) x ≡ none → length (tablesText n x) ≤ maxBytes
   unfolding tablesRefusal tablesText
   lent-bound e = listing-bound _ (lent-encodable lent) (neither _ _ e .1)
 
   -- So with an output of as many bytes `list` never answers 21.
   pub room-for-listing :
-      (out : List ℕ) → 65536 ≤ length out → listRefusal n x out ≡ tablesRefusal (n .types) (n .inputs) (n .nodes) x
+      (out : List ℕ) → maxBytes ≤ length out → listRefusal n x out ≡ tablesRefusal (n .types) (n .inputs) (n .nodes) x
   unfolding listRefusal roomRefusal orElse refusedUnless
   room-for-listing out room = go (tablesRefusal (n .types) (n .inputs) (n .nodes) x) refl
     where

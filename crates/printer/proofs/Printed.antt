@@ -2,34 +2,26 @@
 -- Assumes nothing.
 use Prim.Native.Nat.{ℕ, _+_, _≤_, _<_, min}
 use mathlib.Core.Path.{_≡_, refl, ap, ap₂, _∙_}
-use mathlib.Core.Bool.{true, false}
 use mathlib.Core.List.{List, [], _∷_, _++_}
 use mathlib.Core.Option.{none}
 use native.Mathlib.Omega.{arith}
 use lib.IntN.{ℤ}
 use lib.ListN.{length}
-use lib.Dec.{leb}
-use borrow.Author.Tests.{le-leb, lt-leb}
 use Rattle.script.specs.Columns.{nodesIn}
 use Rattle.lambdamix.specs.Script.{Script, Node, nodeAt, nodeCount, inputCount, root, blankNode}
-use Rattle.lambdamix.specs.Structure.{orElse, refusedUnless}
 use Rattle.lambdamix.specs.Text.{ascii}
 use Rattle.lambdamix.specs.Listing.{listing}
 use Rattle.script.specs.declared.Counts.{Counts}
-use Rattle.script.specs.declared.Refusal as Told
-use Rattle.script.specs.declared.Verdict.{Verdict}
-use Rattle.script.specs.declared.Verdict.the-variants as Verdict
-use Rattle.script.specs.Replies.{refusalOf}
-use Rattle.printer.specs.declared.Listing.{Listing}
+use Rattle.script.specs.declared.Writing.the-variants.{Written, Refused}
+use Rattle.script.specs.Replies.{Fitted}
 use Rattle.script.specs.File.{numbered}
 use Rattle.script.specs.Tables.{Tables, rowNode, rowInput, tablesScript, tablesRefusal, over}
 use Rattle.script.proofs.RefusalLaws.{neither}
 use Rattle.script.proofs.Numbered.{length-numbered, row-at}
 use Rattle.script.proofs.Sound.{sound}
-use Rattle.script.proofs.Verdicts.{told-none}
-use Rattle.printer.specs.declared.Listing.the-variants.{Listed, Refused}
+use Rattle.script.proofs.Texts.{text-fits, text-short}
 use Rattle.printer.specs.Nodes.{nodesText, wholeText}
-use Rattle.printer.specs.Answers.{roomRefusal, listed, listedOutput, tablesText, listRefusal, Puts, Lists, ListsTables}
+use Rattle.printer.specs.Answers.{tablesText, Lists}
 use Rattle.printer.specs.Places.{Placed, most}
 use Rattle.printer.proofs.Trees.{tree-text}
 
@@ -66,21 +58,13 @@ untouched (b ∷ y) x h = absurd (omega arith)
 
 -- Whether the walk's count is at most the output's length decides both.
 module _ {text x y : List ℕ} {k : ℕ} (short : length x < most) (same : y ≡ x) (counted : k ≡ min (0 + length text) most) where
-  puts-whole : {z : List ℕ} {e : ℕ} → k ≤ length y → Placed text 0 y z e → Puts text x z (Listed k)
-  unfolding roomRefusal refusedUnless listed listedOutput
+  puts-whole : {z : List ℕ} {e : ℕ} → k ≤ length y → Placed text 0 y z e → Fitted text x z (Written k)
   puts-whole h p =
-      let c : k ≡ length text = omega (arith, ap length same) in
-      let l : leb (length text) (length x) ≡ true = le-leb (length text) (length x) (omega (arith, ap length same)) in
-      record {
-        reply = rw (l, c);
-        output = rw l (p .stands (omega (arith, ap length same)) (omega (arith, ap length same)) ∙ ap (over text) same);
-      }
+      text-fits (omega (arith, ap length same)) (omega (arith, ap length same))
+      (p .stands (omega (arith, ap length same)) (omega (arith, ap length same)) ∙ ap (over text) same)
 
-  puts-nothing : length y < k → Puts text x y (Refused (record { number = 21; place = 0 }))
-  unfolding roomRefusal refusedUnless listed listedOutput
-  puts-nothing h =
-      let l : leb (length text) (length x) ≡ false = lt-leb (length text) (length x) (omega (arith, ap length same)) in
-      record { reply = rw l; output = rw l same }
+  puts-nothing : length y < k → Fitted text x y (Refused (record { number = 21; place = 0 }))
+  puts-nothing h = text-short refl (omega (arith, ap length same)) same
 
 -- ---- the entry: x is the output before, y what the first walk gives back of the part of length 0 that it is lent
 
@@ -88,7 +72,7 @@ module _ {n : Counts} {kinds a b c : List ℕ} {values : List ℤ} {x y w : List
   pub lists-whole :
       {z : List ℕ} {e : ℕ} → k ≤ length (y ++ x) →
       Placed (wholeText (n .inputs) (n .nodes) kinds a b c values) 0 (y ++ x) z e →
-      Lists n kinds a b c values x z (Listed k)
+      Lists n kinds a b c values x z (Written k)
   unfolding tablesText
   lists-whole h p = record {
     lists = λ ps rs is e.
@@ -101,19 +85,3 @@ module _ {n : Counts} {kinds a b c : List ℕ} {values : List ℤ} {x y w : List
     lists = λ ps rs is e.
         rw (listing-text _ _ _ _ e) (puts-nothing short (untouched y x nothing) (first .counted) h);
   }
-
--- ---- the entry: what the tables' check refuses is told, and past it the columns are listed
-
-module _ {n : Counts} {v : Verdict} (x : Tables) (before : List ℕ) (told : refusalOf v ≡ tablesRefusal (n .types) (n .inputs) (n .nodes) x) where
-  pub lists-refused : {f : Told.Refusal} {r : Listing} → v ≡ Verdict.Refused f → r ≡ Refused f → ListsTables n x before before r
-  unfolding listRefusal listed listedOutput refusalOf orElse
-  lists-refused q e = record { reply = rw (e, ← told, q); output = rw (← told, q) }
-
-  pub lists-passed :
-      {after : List ℕ} {r : Listing} → v ≡ Verdict.Passed → Lists n (x .kinds) (x .a) (x .b) (x .c) (x .values) before after r →
-      ListsTables n x before after r
-  unfolding listRefusal orElse
-  lists-passed q l =
-      let e = told-none told q in
-      let p = l .lists (x .parameters) (x .results) (x .inputs) e in
-      record { reply = rw e (p .reply); output = rw e (p .output) }

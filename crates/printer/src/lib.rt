@@ -4,8 +4,6 @@ pub mod parts;
 mod walk;
 mod words;
 
-use script::Refusal;
-
 // A part of a listing that is written in one go: nothing, one letter, a word, a number, or a number behind a letter.
 pub enum Part {
     Nothing,
@@ -28,10 +26,4 @@ pub enum Word {
     Fix,
     If,
     Sign,
-}
-
-// The listing's answer: how many bytes it wrote, or number and place.
-pub enum Listing {
-    Listed(usize),
-    Refused(Refusal),
 }

@@ -1,11 +1,11 @@
 // The listing of a script in lent tables.
-use crate::Listing;
 use crate::walk::whole;
 use script::Counts;
 use script::Refusal;
 use script::Verdict;
+use script::Writing;
 use tables::refusal::tables_refusal;
-ghost use Rattle.script.specs.Columns.{tablesOf};
+ghost use Rattle.script.specs.Tables.{tablesOf};
 ghost use Rattle.printer.specs.Answers.{Lists, ListsTables};
 
 // A first walk, which is lent no room, finds how long the listing is; a second writes it. No listing of a script past
@@ -18,15 +18,15 @@ fn list_tables(
     c: &[u16],
     values: &[i32],
     out: &mut [u8],
-) -> Listing
+) -> Writing
     ensures { λ r. ⌜ Lists n (now (kinds .entry)) (now (a .entry)) (now (b .entry)) (now (c .entry)) (now (values .entry)) (now (out .entry)) (now (out .exit)) r ⌝ }
 {
     let length = whole(n, kinds, a, b, c, values, &mut out[..0]);
     if length <= out.len() {
         whole(n, kinds, a, b, c, values, out);
-        return Listing::Listed(length);
+        return Writing::Written(length);
     }
-    Listing::Refused(Refusal {
+    Writing::Refused(Refusal {
         number: 21,
         place: 0,
     })
@@ -44,11 +44,11 @@ pub fn list(
     c: &[u16],
     values: &[i32],
     out: &mut [u8],
-) -> Listing
+) -> Writing
     ensures { λ r. ⌜ ListsTables n (tablesOf (now (parameters .entry)) (now (results .entry)) (now (inputs .entry)) (now (kinds .entry)) (now (a .entry)) (now (b .entry)) (now (c .entry)) (now (values .entry))) (now (out .entry)) (now (out .exit)) r ⌝ }
 {
     match tables_refusal(n, parameters, results, inputs, kinds, a, b, c, values) {
-        Verdict::Refused(f) => Listing::Refused(f),
+        Verdict::Refused(f) => Writing::Refused(f),
         Verdict::Passed => list_tables(n, kinds, a, b, c, values, out),
     }
 }

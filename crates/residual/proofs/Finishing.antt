@@ -17,7 +17,7 @@ use Rattle.lambdamix.specs.Specializing.{finished}
 use Rattle.lambdamix.proofs.Tests.{and-both}
 use Rattle.lambdamix.proofs.WrittenTree.{top-last, nodes-size}
 use Rattle.script.specs.Bytes.{bytes16}
-use Rattle.script.specs.File.{headBytes, inputBytes, nodeBytes, records, numbered, fileBytes, fileLength, nodeOffset}
+use Rattle.script.specs.File.{headBytes, inputBytes, nodeBytes, records, numbered, fileBytes, fileLength, inputOffset, nodeOffset}
 use Rattle.file.specs.Written.{Put, headRow}
 use Rattle.script.proofs.Numbered.{length-numbered}
 use Rattle.file.proofs.RecordLaws.{records-length}
@@ -84,16 +84,16 @@ module _ (s : Script) (g : ℕ → ℕ) (count : ℕ) (i : s .inputs ≡ numbere
 
   -- head, inputs and nodes, each put behind the other, are the file
   pub put-written :
-      {l j k m : List ℕ} {base : ℕ} → Put l 0 (headRow 0 count n) j → Put j (8 + 6 * 0) (records inputBytes (numbered g 0 count)) k →
+      {l j k m : List ℕ} {base : ℕ} → Put l 0 (headRow 0 count n) j → Put j (inputOffset 0 0) (records inputBytes (numbered g 0 count)) k →
       base ≡ nodeOffset 0 count 0 → Put k (base + 13 * 0) (records nodeBytes (nodesFrom 0 c)) m → Put l 0 (fileBytes (written s c)) m
-  unfolding fileBytes written headBytes records ascii bytes16 nodeOffset
+  unfolding fileBytes written headBytes records ascii bytes16 inputOffset nodeOffset
   put-written p q b r =
       put-both (put-same the-head p) refl
       (put-both (put-same (ap (records inputBytes) (sym i)) q) (omega (arith, records-length inputLayout (s .inputs), inputs-count)) r)
 
   -- the nodes have room where the file has
   pub nodes-room : {l j k : List ℕ} {base r : ℕ} → fileLength 0 count n ≤ length l → Put l 0 (headRow 0 count n) j →
-      Put j (8 + 6 * 0) (records inputBytes (numbered g 0 count)) k → base ≡ nodeOffset 0 count 0 → r ≡ top 0 c → base + 13 * r + 13 ≤ length k
+      Put j (inputOffset 0 0) (records inputBytes (numbered g 0 count)) k → base ≡ nodeOffset 0 count 0 → r ≡ top 0 c → base + 13 * r + 13 ≤ length k
   unfolding fileLength nodeOffset
   nodes-room h p q b t = omega (arith, h, top-count c e t, put-length p, put-length q)
 

@@ -3,7 +3,7 @@
 use Prim.Native.Nat.{ℕ, _≤_}
 use mathlib.Core.Path.{_≡_, sym, ap, _∙_}
 use mathlib.Core.Bool.{true}
-use mathlib.Core.List.{List, _++_, append-assoc}
+use mathlib.Core.List.{List, _++_}
 use mathlib.Core.Option.{Option, none}
 use native.Mathlib.Omega.{arith}
 use lib.IntN.{ℤ}
@@ -11,14 +11,13 @@ use lib.ListN.{length, take}
 use lib.Seq.{take-at}
 use lib.Dec.{leb, ltb}
 use borrow.Author.Tests.{le-leb, leb-true}
-use Rattle.lambdamix.specs.Limits.{maxInputs, maxNodes, maxHeight, maxFuel}
+use Rattle.lambdamix.specs.Limits.{maxInputs, maxNodes, maxHeight, maxFuel, programFuel, maxBytes}
 use Rattle.lambdamix.specs.Script.{Script, nodeCount}
 use Rattle.lambdamix.specs.Checker.{Refusal, annotationRefusal}
 use Rattle.lambdamix.specs.Structure.{orElse}
 use Rattle.lambdamix.specs.Code.{Code, size, codeHeight, fits, written}
 use Rattle.lambdamix.specs.Specializing as Calculus
 use Rattle.lambdamix.specs.Specializing.{callRefusal, unlessRefused, answerReply, madeBy, make, specialized, finished}
-use Rattle.lambdamix.specs.Text.{ascii, digits}
 use Rattle.lambdamix.specs.Listing.{listing}
 use Rattle.lambdamix.proofs.Tests.{and-both}
 use Rattle.lambdamix.proofs.WrittenTree.{written-size}
@@ -29,16 +28,16 @@ use Rattle.script.specs.Refusals.{fileRefusal}
 use Rattle.file.specs.Heads.{headCounts}
 use Rattle.script.specs.Tables.{Tables, over}
 use Rattle.script.proofs.RefusalLaws.{neither}
-use Rattle.file.proofs.FileLaws.{file-length, file-refusal, read-written}
+use Rattle.file.proofs.FileLaws.{file-length, file-refusal, read-written, script-counts, script-passes}
 use Rattle.file.proofs.AcceptedAgain.{written-again, values-fit}
-use Rattle.residual.specs.AfterRun.{numbered}
+use Rattle.residual.specs.AfterRun.{refusal}
 use Rattle.specializer.specs.declared.Reply.{Reply}
 use Rattle.specializer.specs.declared.Reply.the-variants as Reply
 use Rattle.specializer.specs.Entry.{replied}
-use Rattle.respond.specs.Response.{programFuel, maxBytes, wholeSettings, settingsReply, unmadeText, replyText}
+use Rattle.respond.specs.Response.{wholeSettings, settingsReply, unmadeText, countsText, replyText}
 use Rattle.respond.specs.Given.{givenSettings}
-use Rattle.respond.specs.Stages.{Prints, countsText, PrintsMade, Held, MakesGiven, AnswersScript}
-use Rattle.respond.proofs.Files.{script-counts, script-passes, few-inputs}
+use Rattle.respond.specs.Stages.{Prints, PrintsMade, Held, MakesGiven, AnswersScript}
+use Rattle.respond.proofs.Files.{few-inputs}
 use Rattle.respond.proofs.GivenSettings.{given-reply, settings-fit}
 use Rattle.respond.proofs.Making.{making-is, made-told, unmade-told}
 
@@ -73,16 +72,6 @@ reply-is :
 unfolding make
 reply-is bs rest e = given-reply (scriptIn bs) (few-inputs bs e) rest
 
--- ---- the text of finished code
-
-made-text : (s : Script) (c : Code) (k : ℕ) → countsText k (size c) ++ listing (written s c) ≡ replyText s (Calculus.made c k)
-unfolding countsText replyText
-made-text s c k =
-    regroup (ascii "accepted\nsteps ") (digits k) (ascii "\nnodes ") (digits (size c)) (ascii "\n") (listing (written s c))
-  where
-    regroup : (a b c d e f : List ℕ) → ((((a ++ b) ++ c) ++ d) ++ e) ++ f ≡ a ++ (b ++ (c ++ (d ++ (e ++ f))))
-    regroup a b c d e f = simp append-assoc
-
 -- ---- a script that is held
 
 module _ {n : Counts} {x : Tables} (rest : List ℕ) {file made : List ℕ} {reply : Reply} (m : MakesGiven n x rest file made reply) where
@@ -96,7 +85,7 @@ module _ {n : Counts} {x : Tables} (rest : List ℕ) {file made : List ℕ} {rep
         let told =
         unmade-told (scriptIn bs) (givenSettings rest) file made
         (λ c e. le-leb (length (fileBytes (written (scriptIn bs) c))) (length file) (omega (arith, made-room (scriptIn bs) (few-inputs bs (h .read)) c e)))
-        _ (numbered (f .number) (f .place)) k
+        _ (refusal (f .number) (f .place)) k
         ((rw q at (m .gives)) ∙ making-is h (givenSettings rest) (m .stores) (m .enough) file) in
         rw (sym (reply-is bs rest (h .read)) ∙ told) p;
   }
@@ -105,7 +94,7 @@ module _ {n : Counts} {x : Tables} (rest : List ℕ) {file made : List ℕ} {rep
   pub answered-made :
       {k l r : ℕ} {out printed : List ℕ} → reply ≡ Reply.Made k l → PrintsMade (n .inputs) k l made out printed r →
       AnswersScript n x rest out printed r
-  unfolding replied headCounts programFuel maxFuel
+  unfolding replied headCounts programFuel maxFuel replyText
   answered-made {k} {l} q p = record {
     answers = λ bs h all long.
         let s : Script = scriptIn bs in
@@ -121,8 +110,7 @@ module _ {n : Counts} {x : Tables} (rest : List ℕ) {file made : List ℕ} {rep
         let text : countsText k l ++ listing (scriptIn (take (fileLength 0 (n .inputs) l) made)) ≡ replyText s (Calculus.made c k) =
         ap (λ (w : List ℕ). countsText k l ++ listing (scriptIn w)) part
         ∙ ap (λ (w : Script). countsText k l ++ listing w) same
-        ∙ ap (λ (j : ℕ). countsText k j ++ listing (written s c)) (t .nodes)
-        ∙ made-text s c k in
+        ∙ ap (λ (j : ℕ). countsText k j ++ listing (written s c)) (t .nodes) in
         let finish : Calculus.made c k ≡ settingsReply (wholeSettings rest) s rest =
         sym (done-reply s zs (t .free) (t .run) (t .fitting)) ∙ reply-is bs rest (h .read) in
         rw (← finish, ← text) (p .prints (rw part read) long);

@@ -1,6 +1,6 @@
 -- A file that passes 1 to 8 and the tables that hold it. Assumes nothing.
 use Prim.Native.Nat.{ℕ, _≤_}
-use mathlib.Core.Path.{_≡_, sym, ap, _∙_}
+use mathlib.Core.Path.{_≡_, ap, _∙_}
 use mathlib.Core.Bool.{true}
 use mathlib.Core.List.{List}
 use mathlib.Core.Option.{none}
@@ -10,32 +10,21 @@ use lib.Dec.{leb}
 use borrow.Author.Tests.{le-leb, leb-true}
 use Rattle.lambdamix.specs.Limits.{maxTypes, maxInputs, maxNodes}
 use Rattle.lambdamix.proofs.Tests.{and-both, and-intro}
+use Rattle.script.specs.Columns.{enough}
 use Rattle.script.specs.declared.Counts.{Counts}
 use Rattle.script.specs.File.{headTypes, headInputs, headNodes, scriptIn}
 use Rattle.script.specs.Refusals.{countsRight, scriptRefusal, fileRefusal}
 use Rattle.file.specs.Heads.{headCounts}
-use Rattle.file.specs.Encodable.{AllBytes}
 use Rattle.script.specs.Tables.{Tables, tablesRefusal, longEnough}
-use Rattle.script.proofs.RefusalLaws.{neither, not-refused, pass-over}
-use Rattle.script.proofs.Numbered.{length-numbered}
+use Rattle.script.proofs.RefusalLaws.{neither, pass-over}
 use Rattle.script.proofs.Sound.{in-limits}
-use Rattle.file.proofs.FileLaws.{file-refusal, read-fits, written-read}
+use Rattle.file.proofs.FileLaws.{script-counts, script-passes}
+use Rattle.file.proofs.ReaderLaws.{head-passes}
 use Rattle.respond.specs.Stages.{Held}
-
-pub script-counts :
-    (bs : List ℕ) →
-    (length (scriptIn bs .types) ≡ headTypes bs) × (length (scriptIn bs .inputs) ≡ headInputs bs) × (length (scriptIn bs .nodes) ≡ headNodes bs)
-unfolding scriptIn
-script-counts bs = (length-numbered _ 0 (headTypes bs), length-numbered _ 0 (headInputs bs), length-numbered _ 0 (headNodes bs))
 
 pub file-counts : (bs : List ℕ) → fileRefusal bs ≡ none → countsRight (headTypes bs) (headInputs bs) (headNodes bs) ≡ true
 unfolding fileRefusal
-file-counts bs e =
-    let after-mark = neither _ _ (neither _ _ e .1) .1 in
-    not-refused _ _ _ (neither _ _ after-mark .0)
-
-pub script-passes : (bs : List ℕ) → AllBytes bs → fileRefusal bs ≡ none → scriptRefusal (scriptIn bs) ≡ none
-script-passes bs all e = sym (file-refusal (scriptIn bs) (read-fits bs all)) ∙ ap fileRefusal (written-read bs all e) ∙ e
+file-counts bs e = head-passes bs (neither _ _ e .0)
 
 pub few-inputs : (bs : List ℕ) → fileRefusal bs ≡ none → length (scriptIn bs .inputs) ≤ maxInputs
 few-inputs bs e = omega (arith, script-counts bs .1, in-limits _ _ _ (file-counts bs e) .inputs)
@@ -47,7 +36,7 @@ lower {a} {b} x h e = le-leb a x (omega (arith, leb-true b x e))
 
 pub long-for :
     (t i n : ℕ) (x : Tables) → countsRight t i n ≡ true → longEnough maxTypes maxInputs maxNodes x ≡ true → longEnough t i n x ≡ true
-unfolding longEnough
+unfolding longEnough enough
 long-for t i n x h e =
     let l = in-limits t i n h in
     let (types, rest) = and-both _ _ e in

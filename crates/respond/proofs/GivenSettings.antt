@@ -5,24 +5,23 @@ use mathlib.Core.Path.{_≡_, refl, sym, _∙_}
 use mathlib.Core.Bool.{Bool, true, false, not, _&&_}
 use mathlib.Core.List.{List, [], _∷_}
 use mathlib.Core.Option.{Option, none, some}
-use mathlib.Core.Logic.{⊎-elim}
 use native.Mathlib.Omega.{arith}
 use lib.IntN.{ℤ, pos}
-use lib.ListN.{length, getD, List·getD-eq-default}
+use lib.ListN.{length, getD}
 use lib.Dec.{ltb, eqb}
-use borrow.Author.Tests.{ne-eqb, ltb-true, ltb-false}
-use Rattle.lambdamix.specs.Limits.{maxInputs}
+use borrow.Author.Tests.{ne-eqb, ltb-false}
+use Rattle.lambdamix.specs.Limits.{maxInputs, programFuel}
 use Rattle.lambdamix.specs.Script.{Script}
 use Rattle.lambdamix.specs.Checker.{Refusal, annotationRefusal}
 use Rattle.lambdamix.specs.Structure.{orElse, oneIf, refusedUnless}
 use Rattle.lambdamix.specs.Specializing.{Reply, unmade, staticInputs, callRefusal, unlessRefused, answerReply, specialized, make}
-use Rattle.lambdamix.proofs.Tests.{holds-or-fails}
 use Rattle.lambdamix.proofs.Range.{Fits}
 use Rattle.script.specs.File.{numbered}
 use Rattle.file.specs.Encodable.{AllBytes}
 use Rattle.file.proofs.ByteLaws.{value-small}
+use Rattle.script.proofs.Rows.{everywhere}
 use Rattle.script.proofs.Numbered.{length-numbered, row-at}
-use Rattle.respond.specs.Response.{programFuel, programSettings, wholeSettings, settingAt, settings, settingsReply}
+use Rattle.respond.specs.Response.{programSettings, wholeSettings, settingAt, settings, settingsReply}
 use Rattle.respond.specs.Given.{givenBy, givenCount, givenSettings}
 
 abbrev twelve : Option Refusal
@@ -97,15 +96,8 @@ module _ (s : Script) (few : length (s .inputs) ≤ maxInputs) where
 -- settings have 32 bits
 pub settings-fit : (bs : List ℕ) → AllBytes bs → (i : ℕ) → Fits (getD (givenSettings bs) i (pos 0))
 unfolding givenSettings settingAt
-settings-fit bs all i = ⊎-elim inside outside (holds-or-fails (ltb i (givenCount bs)))
-  where
-    inside : ltb i (givenCount bs) ≡ true → Fits (getD (numbered (settingAt bs) 0 (givenCount bs)) i (pos 0))
-    inside e =
-        rw (row-at (settingAt bs) (givenCount bs) (pos 0) i (ltb-true i (givenCount bs) e))
-        (record { within = value-small all (6 * i + 2) })
-
-    outside : ltb i (givenCount bs) ≡ false → Fits (getD (numbered (settingAt bs) 0 (givenCount bs)) i (pos 0))
-    outside e =
-        let past : length (numbered (settingAt bs) 0 (givenCount bs)) ≤ i =
-        omega (arith, ltb-false i (givenCount bs) e, length-numbered (settingAt bs) 0 (givenCount bs)) in
-        rw (List·getD-eq-default (numbered (settingAt bs) 0 (givenCount bs)) (pos 0) past) (record { within = omega arith })
+settings-fit bs all =
+    everywhere Fits (pos 0) (numbered (settingAt bs) 0 (givenCount bs)) (record { within = omega arith })
+    (λ i l.
+    rw (row-at (settingAt bs) (givenCount bs) (pos 0) i (omega (arith, length-numbered (settingAt bs) 0 (givenCount bs))))
+    (record { within = value-small all (6 * i + 2) }))

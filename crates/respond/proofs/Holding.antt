@@ -8,12 +8,13 @@ use native.Mathlib.Omega.{arith}
 use lib.ListN.{length, take, drop, length-append, length-drop, length-map}
 use lib.Dec.{leb}
 use borrow.Author.Tests.{le-leb, leb-true}
-use Rattle.lambdamix.specs.Limits.{maxTypes, maxInputs, maxNodes}
+use Rattle.lambdamix.specs.Limits.{maxTypes, maxInputs, maxNodes, maxBytes}
 use Rattle.lambdamix.specs.Script.{Script, FunctionType, Node, nodeCount}
 use Rattle.lambdamix.specs.Checker.{Refusal}
 use Rattle.lambdamix.specs.Structure.{orElse, refusedUnless}
 use Rattle.lambdamix.specs.Listing.{listing}
 use Rattle.lambdamix.proofs.Tests.{and-both, and-intro}
+use Rattle.script.specs.Columns.{enough}
 use Rattle.script.specs.declared.Counts.{Counts}
 use Rattle.script.specs.declared.Refusal as Told
 use Rattle.script.specs.declared.Reading.{Reading}
@@ -26,13 +27,12 @@ use Rattle.script.specs.Tables.{Tables, over, filled, longEnough, readRefusal, 
 use Rattle.script.specs.Replies.{reading, Reads}
 use Rattle.script.proofs.Sound.{in-limits}
 use Rattle.file.proofs.FillLaws.{file-held}
-use Rattle.file.proofs.FileLaws.{read-fits}
+use Rattle.file.proofs.FileLaws.{read-fits, script-counts, script-passes}
 use Rattle.printer.specs.Answers.{tablesText}
 use Rattle.printer.proofs.Writing.{join}
 use Rattle.printer.proofs.ListingBound.{listing-bytes}
-use Rattle.respond.specs.Response.{maxBytes}
 use Rattle.respond.specs.Stages.{linesBytes, listingBytes, CountsPlaced, ListsAt, ListsReading, ListsFile, PrintsMade, Held}
-use Rattle.respond.proofs.Files.{script-counts, file-counts, script-passes, long-for, held-passes}
+use Rattle.respond.proofs.Files.{file-counts, long-for, held-passes}
 use Rattle.respond.proofs.Splitting.{front-part}
 
 -- ---- columns that are filled stay as long as they are
@@ -46,7 +46,7 @@ still-long k new old h e =
 filled-long :
     (s : Script) (x : Tables) → length (s .types) ≤ maxTypes → length (s .inputs) ≤ maxInputs → length (s .nodes) ≤ maxNodes →
     longEnough maxTypes maxInputs maxNodes x ≡ true → longEnough maxTypes maxInputs maxNodes (filled s x) ≡ true
-unfolding longEnough filled
+unfolding longEnough enough filled
 filled-long s x t i n e =
     let (types, rest) = and-both _ _ e in
     let (inputs, nodes) = and-both _ _ rest in

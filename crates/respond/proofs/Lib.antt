@@ -7,3 +7,4 @@ pub mod Making
 pub mod Answering
 pub mod Responding
 pub mod Longer
+pub mod InputA

@@ -10,16 +10,16 @@ use lib.ListN.{length, take, length-drop}
 use lib.Seq.{take-all, take-take, getD-take, length-take-le}
 use lib.Dec.{leb, ltb}
 use borrow.Author.Tests.{le-leb}
-use Rattle.lambdamix.specs.Limits.{maxTypes, maxInputs, maxNodes}
+use Rattle.lambdamix.specs.Limits.{maxTypes, maxInputs, maxNodes, maxBytes}
 use Rattle.lambdamix.specs.Checker.{Refusal, annotationRefusal}
 use Rattle.lambdamix.specs.Structure.{orElse, refusedUnless}
 use Rattle.lambdamix.specs.Specializing.{unmade, unlessRefused}
 use Rattle.lambdamix.proofs.Tests.{and-both}
 use Rattle.script.specs.Bytes.{byteAt, word16}
 use Rattle.script.specs.File.{fileLength, nodeOffset, headTypes, headInputs, headNodes, scriptIn}
-use Rattle.script.specs.Refusals.{marked, headMarked, countsRight, fileRefusal}
+use Rattle.script.specs.Refusals.{marked, headMarked, countsRight, fileRefusal, headRefusal}
 use Rattle.script.proofs.Sound.{in-limits}
-use Rattle.respond.specs.Response.{programSettings, maxBytes, headRight, scriptLengthBy, scriptLength, scriptPart, settingsPart, inputReply, replyTo, unmadeText, replyText, response}
+use Rattle.respond.specs.Response.{programSettings, headRight, scriptLengthBy, scriptLength, scriptPart, settingsPart, inputReply, replyTo, unmadeText, replyText, response}
 use Rattle.respond.proofs.Files.{few-inputs}
 use Rattle.respond.proofs.GivenSettings.{many-settings}
 
@@ -49,19 +49,19 @@ headFault false = record { number = 2; place = 0 }
 
 -- of two faults the first is told
 first-fault :
-    (l m c : Bool) (n : ℕ) (r : Option Refusal) → l ≡ true → (l && (m && c)) ≡ false →
-    orElse (refusedUnless l 1 n) (orElse (refusedUnless m 2 0) (orElse (refusedUnless c 3 0) r)) ≡ some (headFault m)
+    (l m c : Bool) (n : ℕ) (r b : Option Refusal) → l ≡ true → (l && (m && c)) ≡ false →
+    orElse (orElse (refusedUnless l 1 n) (orElse (refusedUnless m 2 0) (orElse (refusedUnless c 3 0) r))) b ≡ some (headFault m)
 unfolding refusedUnless orElse headFault
-first-fault false m c n r h f = absurd (true≢false (sym h))
-first-fault true true true n r h f = absurd (true≢false f)
-first-fault true true false n r h f = refl
-first-fault true false c n r h f = refl
+first-fault false m c n r b h f = absurd (true≢false (sym h))
+first-fault true true true n r b h f = absurd (true≢false f)
+first-fault true true false n r b h f = refl
+first-fault true false c n r b h f = refl
 
 wrong-head :
     (bs : List ℕ) → 8 ≤ length bs → headRight bs ≡ false → fileRefusal bs ≡ some (headFault (headMarked bs 0))
-unfolding headRight fileRefusal
+unfolding headRight headRefusal fileRefusal
 wrong-head bs h e =
-    first-fault (leb 8 (length bs)) (headMarked bs 0) (countsRight (headTypes bs) (headInputs bs) (headNodes bs)) (length bs) _ (le-leb 8 (length bs) h) e
+    first-fault (leb 8 (length bs)) (headMarked bs 0) (countsRight (headTypes bs) (headInputs bs) (headNodes bs)) (length bs) _ _ (le-leb 8 (length bs) h) e
 
 -- without a right head the whole input is the script
 whole-script : (bs : List ℕ) → headRight bs ≡ false → scriptPart bs ≡ bs

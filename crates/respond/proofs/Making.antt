@@ -8,6 +8,7 @@ use native.Mathlib.Omega.{arith}
 use lib.IntN.{ℤ}
 use lib.ListN.{length}
 use lib.Dec.{leb}
+use Rattle.lambdamix.specs.Limits.{programFuel}
 use Rattle.lambdamix.specs.Script.{Script}
 use Rattle.lambdamix.specs.Checker.{Refusal, annotationRefusal}
 use Rattle.lambdamix.specs.Structure.{orElse, refusedUnless}
@@ -17,18 +18,13 @@ use Rattle.lambdamix.specs.Specializing.{Answer, finished, halted, specialized,
 use Rattle.script.specs.declared.Counts.{Counts}
 use Rattle.script.specs.File.{fileBytes, scriptIn}
 use Rattle.script.specs.Tables.{Tables, over}
+use Rattle.script.proofs.RefusalLaws.{or-none}
 use Rattle.residual.specs.AfterRun.{Reply, made, unmade, Made, writtenBy, afterRun}
 use Rattle.specializer.specs.Making.{Stores, storesSuffice, annotationBy, refusalBefore, madeUnless, making}
-use Rattle.respond.specs.Response.{programFuel}
 use Rattle.respond.specs.Stages.{Held}
 use Rattle.respond.proofs.Files.{held-passes}
 
 -- ---- what is refused before the run of a script that is held
-
-or-none : {A : Type 0} (r : Option A) → orElse r none ≡ r
-unfolding orElse
-or-none none = refl
-or-none (some a) = refl
 
 module _ {bs : List ℕ} {n : Counts} {x : Tables} (h : Held bs n x) (zs : List ℤ) (m : Stores) (enough : storesSuffice programFuel m ≡ true) where
   before-is :

@@ -1,17 +1,15 @@
 -- An input is answered by its script and what follows it, and a call by its input where the output is long enough. Assumes nothing.
 use Prim.Native.Nat.{ℕ, _+_, _-_, _≤_, _<_, min}
 use mathlib.Core.Path.{_≡_, refl, sym, ap, _∙_, subst}
-use mathlib.Core.Bool.{true, false}
+use mathlib.Core.Bool.{true}
 use mathlib.Core.List.{List}
 use mathlib.Core.Option.{Option, none, some}
-use mathlib.Core.Logic.{⊎-elim}
 use native.Mathlib.Omega.{arith}
-use lib.ListN.{length, take, drop, length-take, List·getD-eq-default}
+use lib.ListN.{length, take, drop, length-take}
 use lib.Seq.{getD-take, getD-drop}
 use lib.Dec.{ltb}
-use borrow.Author.Tests.{le-leb, lt-leb, ltb-true, ltb-false}
-use Rattle.lambdamix.specs.Limits.{maxTypes, maxInputs, maxNodes}
-use Rattle.lambdamix.proofs.Tests.{holds-or-fails}
+use borrow.Author.Tests.{le-leb, lt-leb}
+use Rattle.lambdamix.specs.Limits.{maxTypes, maxInputs, maxNodes, maxBytes}
 use Rattle.script.specs.declared.Counts.{Counts}
 use Rattle.script.specs.declared.Refusal as Told
 use Rattle.script.specs.declared.Reading.{Reading}
@@ -24,8 +22,9 @@ use Rattle.file.specs.Encodable.{AllBytes}
 use Rattle.script.specs.Tables.{Tables, longEnough, over}
 use Rattle.script.specs.Replies.{Reads}
 use Rattle.printer.specs.Places.{most}
+use Rattle.script.proofs.Rows.{everywhere}
 use Rattle.respond.specs.declared.Response.the-variants.{Printed, TooShort}
-use Rattle.respond.specs.Response.{maxBytes, scriptLength, scriptPart, settingsPart, inputReply, replyTo, unmadeText, replyText, response}
+use Rattle.respond.specs.Response.{scriptLength, scriptPart, settingsPart, inputReply, replyTo, unmadeText, replyText, response}
 use Rattle.respond.specs.Answers.{responded, respondedOutput, Responds}
 use Rattle.respond.specs.Stages.{Prints, AnswersScript, AnswersReading, Answers}
 use Rattle.respond.proofs.Splitting.{front-part, back-part}
@@ -37,10 +36,9 @@ taken-bytes : {bs : List ℕ} (k : ℕ) → AllBytes bs → AllBytes (take k bs)
 unfolding byteAt
 taken-bytes {bs} k all =
     record {
-      below = λ i.
-          ⊎-elim (λ (e : ltb i k ≡ true). rw (getD-take k bs i 0 (ltb-true i k e)) (all .below i))
-          (λ (e : ltb i k ≡ false). let past : length (take k bs) ≤ i = rw (length-take k bs) (omega (arith, ltb-false i k e)) in
-          rw (List·getD-eq-default (take k bs) 0 past) (omega arith)) (holds-or-fails (ltb i k));
+      below =
+          everywhere (λ (b : ℕ). b < 256) 0 (take k bs) (omega arith)
+          (λ i l. rw (getD-take k bs i 0 (omega (arith, length-take k bs, l))) (all .below i));
     }
 
 left-bytes : {bs : List ℕ} (k : ℕ) → AllBytes bs → AllBytes (drop k bs)

@@ -9,6 +9,7 @@ use lib.ListN.{length, take, drop, length-drop, drop-of-length-le}
 use lib.Seq.{take-at, take-all}
 use lib.Dec.{leb, ltb, eqb}
 use borrow.Author.Tests.{ltb-true, leb-true, leb-false}
+use Rattle.lambdamix.specs.Limits.{programFuel}
 use Rattle.lambdamix.specs.Structure.{firstFailing}
 use Rattle.script.specs.declared.Counts.{Counts}
 use Rattle.script.specs.File.{numbered, headTypes, headInputs, headNodes}
@@ -18,7 +19,7 @@ use Rattle.script.proofs.Numbered.{length-numbered}
 use Rattle.specializer.specs.Making.{Stores, storesSuffice}
 use Rattle.specializer.specs.declared.Reply.{Reply}
 use Rattle.specializer.specs.Entry.{Makes}
-use Rattle.respond.specs.Response.{programFuel, programSettings, headRight, scriptLengthBy, scriptLength, wholeSettings, settingMarked, settingAt}
+use Rattle.respond.specs.Response.{programSettings, headRight, scriptLengthBy, scriptLength, wholeSettings, settingMarked, settingAt}
 use Rattle.respond.specs.Given.{givenBy, givenCount, givenSettings}
 use Rattle.respond.specs.Stages.{MakesGiven}
 

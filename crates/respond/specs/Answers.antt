@@ -6,10 +6,11 @@ use mathlib.Core.Bool.{Bool, true, false}
 use mathlib.Core.List.{List}
 use lib.ListN.{length}
 use lib.Dec.{leb}
+use Rattle.lambdamix.specs.Limits.{maxBytes}
 use Rattle.script.specs.Tables.{over}
 use Rattle.respond.specs.declared.Response.{Response}
 use Rattle.respond.specs.declared.Response.the-variants.{Printed, TooShort}
-use Rattle.respond.specs.Response.{maxBytes, response}
+use Rattle.respond.specs.Response.{response}
 
 -- how many bytes were written, or that the output is too short
 unfoldable pub responded : Bool → List ℕ → Response

@@ -8,7 +8,7 @@ use mathlib.Core.Option.{Option, none, some}
 use lib.IntN.{ℤ}
 use lib.ListN.{length, take, drop}
 use lib.Dec.{leb, ltb, eqb}
-use Rattle.lambdamix.specs.Limits.{maxInputs}
+use Rattle.lambdamix.specs.Limits.{maxInputs, programFuel}
 use Rattle.lambdamix.specs.Script.{Script}
 use Rattle.lambdamix.specs.Checker.{Refusal, annotationRefusal}
 use Rattle.lambdamix.specs.Structure.{firstFailing}
@@ -20,17 +20,9 @@ use Rattle.script.specs.Bytes.{word32, signed32}
 use Rattle.script.specs.File.{headTypes, headInputs, headNodes, fileLength, numbered, scriptIn}
 use Rattle.script.specs.Refusals.{countsRight, marked, headMarked, isNone, fileRefusal}
 
--- "its fuel is 4,000"
-unfoldable pub programFuel : ℕ
-programFuel = 4000
-
 -- room for one setting more than a script has inputs
 unfoldable pub programSettings : ℕ
 programSettings = maxInputs + 1
-
--- the most bytes of a made file, and of what is printed
-unfoldable pub maxBytes : ℕ
-maxBytes = 65536
 
 unfoldable pub headRight : List ℕ → Bool
 headRight bs = leb 8 (length bs) && (headMarked bs 0 && countsRight (headTypes bs) (headInputs bs) (headNodes bs))
@@ -76,16 +68,22 @@ inputReply (some f) s bs = unmade (f .number) (f .place) 0
 unfoldable pub replyTo : List ℕ → Reply
 replyTo bs = inputReply (fileRefusal (scriptPart bs)) (scriptIn (scriptPart bs)) (settingsPart bs)
 
+-- two numbers, each behind its words
+unfoldable pub pairText : List ℕ → ℕ → List ℕ → ℕ → List ℕ
+pairText a x b y = a ++ digits x ++ b ++ digits y ++ ascii "\n"
+
 -- "`refused 9 4` (number, place) alone, or `accepted` and `stopped 24 2`, each on its own line; 21 and 26 print as stops"
 unfoldable pub unmadeText : Bool → ℕ → ℕ → List ℕ
-unmadeText true n p = ascii "refused " ++ (digits n ++ (ascii " " ++ (digits p ++ ascii "\n")))
-unmadeText false n p = ascii "accepted\nstopped " ++ (digits n ++ (ascii " " ++ (digits p ++ ascii "\n")))
+unmadeText true n p = pairText (ascii "refused ") n (ascii " ") p
+unmadeText false n p = pairText (ascii "accepted\nstopped ") n (ascii " ") p
+
+-- the three lines before the listing
+unfoldable pub countsText : ℕ → ℕ → List ℕ
+countsText k n = pairText (ascii "accepted\nsteps ") k (ascii "\nnodes ") n
 
 -- "Nodes counts the written tree."
 unfoldable pub replyText : Script → Reply → List ℕ
-replyText s (made c k) =
-    ascii "accepted\nsteps "
-    ++ (digits k ++ (ascii "\nnodes " ++ (digits (size c) ++ (ascii "\n" ++ listing (written s c)))))
+replyText s (made c k) = countsText k (size c) ++ listing (written s c)
 replyText s (unmade n p k) = unmadeText (ltb n 20) n p
 
 -- every byte that the program prints for an input

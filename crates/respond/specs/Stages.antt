@@ -1,14 +1,13 @@
 -- What the stages of `respond` promise: lines and listings printed, a script answered. Assumes nothing.
 use Prim.Native.Nat.{ℕ, _+_, _*_, _≤_}
 use mathlib.Core.Path.{_≡_}
-use mathlib.Core.Bool.{Bool, true, false}
+use mathlib.Core.Bool.{true, false}
 use mathlib.Core.List.{List, _++_}
 use mathlib.Core.Option.{none}
 use lib.ListN.{length, take}
 use lib.Dec.{ltb}
-use Rattle.lambdamix.specs.Limits.{maxTypes, maxInputs, maxNodes}
+use Rattle.lambdamix.specs.Limits.{maxTypes, maxInputs, maxNodes, programFuel, maxBytes}
 use Rattle.lambdamix.specs.Script.{Script}
-use Rattle.lambdamix.specs.Text.{ascii, digits}
 use Rattle.lambdamix.specs.Listing.{listing}
 use Rattle.script.specs.declared.Counts.{Counts}
 use Rattle.script.specs.declared.Refusal.{Refusal}
@@ -24,22 +23,13 @@ use Rattle.printer.specs.Answers.{tablesText}
 use Rattle.specializer.specs.declared.Reply.{Reply}
 use Rattle.specializer.specs.Making.{Stores, storesSuffice, making}
 use Rattle.specializer.specs.Entry.{given}
-use Rattle.respond.specs.Response.{programFuel, maxBytes, wholeSettings, settingsReply, unmadeText, replyText, response}
+use Rattle.respond.specs.Response.{wholeSettings, settingsReply, unmadeText, countsText, replyText, response}
 use Rattle.respond.specs.Given.{givenSettings}
 
 -- a text that fits is printed
 pub record Prints (text before after : List ℕ) (r : ℕ) : Type 0 where
   pub short : length text ≤ maxBytes
   pub placed : Placed text 0 before after r
-
--- two numbers, each behind its words
-unfoldable pub pairText : List ℕ → ℕ → List ℕ → ℕ → List ℕ
-pairText a x b y = a ++ digits x ++ b ++ digits y ++ ascii "\n"
-
--- the words before number and place
-unfoldable pub opening : Bool → List ℕ
-opening true = ascii "refused "
-opening false = ascii "accepted\nstopped "
 
 -- the most bytes of the lines before a listing, and of the listing of a file that passes 1 to 8
 unfoldable pub linesBytes : ℕ
@@ -48,10 +38,7 @@ linesBytes = 64
 unfoldable pub listingBytes : ℕ
 listingBytes = 13 * maxNodes + 1
 
--- the three lines before the listing
-unfoldable pub countsText : ℕ → ℕ → List ℕ
-countsText k n = ascii "accepted\nsteps " ++ digits k ++ ascii "\nnodes " ++ digits n ++ ascii "\n"
-
+-- the three lines before a listing are placed
 pub record CountsPlaced (k n : ℕ) (before after : List ℕ) (r : ℕ) : Type 0 where
   pub short : length (countsText k n) ≤ linesBytes
   pub placed : Placed (countsText k n) 0 before after r

@@ -1,5 +1,4 @@
 // The lines that are printed, and the listing behind them. Each part is written into what remains of the lent output.
-use printer::Listing;
 use printer::Part;
 use printer::list::list;
 use printer::parts::further;
@@ -7,11 +6,12 @@ use printer::parts::least;
 use printer::parts::part_at;
 use printer::parts::text_at;
 use script::Reading;
+use script::Writing;
 ghost use lib.Dec.{ltb};
-ghost use Rattle.script.specs.Columns.{tablesOf};
+ghost use Rattle.script.specs.Tables.{tablesOf};
 ghost use Rattle.printer.specs.Places.{Placed};
-ghost use Rattle.respond.specs.Response.{unmadeText};
-ghost use Rattle.respond.specs.Stages.{pairText, CountsPlaced, Prints, ListsReading};
+ghost use Rattle.respond.specs.Response.{pairText, unmadeText};
+ghost use Rattle.respond.specs.Stages.{CountsPlaced, Prints, ListsReading};
 
 // Two numbers, each behind its words, and the end of the line.
 fn print_pair(out: &mut [u8], opening: &[u8], x: u64, middle: &[u8], y: u64) -> usize
@@ -86,8 +86,8 @@ pub(crate) fn list_at(
                 &mut out[from..],
             );
             match answer {
-                Listing::Listed(k) => further(at, k),
-                Listing::Refused(_) => at,
+                Writing::Written(k) => further(at, k),
+                Writing::Refused(_) => at,
             }
         }
     }

@@ -19,7 +19,7 @@ use script::limits::MAX_TYPES;
 use script::place::file_size;
 use specializer::Reply;
 use specializer::make::make;
-ghost use Rattle.script.specs.Columns.{tablesOf};
+ghost use Rattle.script.specs.Tables.{tablesOf};
 ghost use Rattle.respond.specs.Stages.{MakesGiven, ListsFile, PrintsMade, AnswersReading};
 
 // The maker on a script that was read, with the settings that follow it and stores that start as zeros.

@@ -1,8 +1,10 @@
 pub mod Numbered
+pub mod Rows
 pub mod TableLaws
 pub mod RefusalLaws
 pub mod Sound
 pub mod Verdicts
+pub mod Texts
 pub mod Searching
 pub mod SignedBits
 pub mod WordLaws

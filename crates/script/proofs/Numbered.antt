@@ -1,7 +1,7 @@
--- Laws of things in a row by their numbers: how many they are, each by its number, and rows that are the same. Assumes nothing.
+-- Laws of things in a row by their numbers: how many they are, one more, each by its number, and rows that are the same. Assumes nothing.
 use Prim.Native.Nat.{ℕ, zero, suc, _+_, _<_}
 use mathlib.Core.Path.{_≡_, refl, ap, ap₂, _∙_}
-use mathlib.Core.List.{List, _∷_, map}
+use mathlib.Core.List.{List, [], _∷_, _++_, map}
 use native.Mathlib.Omega.{arith}
 use lib.ListN.{length, getD}
 use lib.Seq.{ext-getD}
@@ -12,6 +12,12 @@ module _ {A : Type 0} where
   unfolding numbered
   length-numbered f j zero = refl
   length-numbered f j (suc n) = ap suc (length-numbered f (suc j) n)
+
+  pub numbered-more : (f : ℕ → A) (j n : ℕ) → numbered f j (suc n) ≡ numbered f j n ++ (f (j + n) ∷ [])
+  unfolding numbered
+  numbered-more f j zero = ap (λ (k : ℕ). f k ∷ []) (omega arith)
+  numbered-more f j (suc n) =
+      ap (_∷_ (f j)) (numbered-more f (suc j) n ∙ ap (λ (k : ℕ). numbered f (suc j) n ++ (f k ∷ [])) (omega arith))
 
   pub getD-numbered : (f : ℕ → A) (j n : ℕ) (d : A) (i : ℕ) → i < n → getD (numbered f j n) i d ≡ f (j + i)
   unfolding numbered

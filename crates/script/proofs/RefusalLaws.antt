@@ -22,6 +22,11 @@ unfolding orElse
 neither none s e = (refl, e)
 neither (some a) s e = absurd (some-not-none e)
 
+pub or-none : {A : Type 0} (r : Option A) → orElse r none ≡ r
+unfolding orElse
+or-none none = refl
+or-none (some a) = refl
+
 pub no-earlier : (r s : Option Refusal) → earlier r s ≡ none → (r ≡ none) × (s ≡ none)
 unfolding earlier earlierBy
 no-earlier none s e = (refl, e)

@@ -13,9 +13,9 @@ module _ {v : Verdict} {p : Option Checker.Refusal} (told : refusalOf v ≡ p) w
   unfolding refusalOf
   told-none e = sym told ∙ ap refusalOf e
 
-  pub told-first : (r : Option Checker.Refusal) {f : Refusal} → v ≡ Verdict.Refused f → refusalOf (Verdict.Refused f) ≡ orElse p r
+  pub told-first : (r : Option Checker.Refusal) {f : Refusal} {w : Verdict} → v ≡ Verdict.Refused f → w ≡ Verdict.Refused f → refusalOf w ≡ orElse p r
   unfolding refusalOf orElse
-  told-first r e = rw (← told, e)
+  told-first r e h = rw (h, ← told, e)
 
   pub told-then : {q r : Option Checker.Refusal} → v ≡ Verdict.Passed → q ≡ r → q ≡ orElse p r
   unfolding refusalOf orElse

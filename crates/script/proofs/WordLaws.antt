@@ -12,7 +12,7 @@ use borrow.Author.Tests.{lt-ltb, le-ltb, ltb-true, ltb-false, eqb-true, eqb-fals
 use lib.Dec.{ltb, eqb}
 use Rattle.lambdamix.specs.Script.{Node}
 use Rattle.script.specs.Bytes.{signed32, signedBy, bits32}
-use Rattle.script.specs.Columns.{nodeOf}
+use Rattle.lambdamix.specs.Code.{node}
 use Rattle.script.specs.Words.{word, wordKind, wordA, wordB, wordC, wordValue, Holds, Packed}
 
 -- a signed number of 32 bits
@@ -67,14 +67,10 @@ value-bits z f = let e : bits32 z % 4294967296 ≡ bits32 z = omega (arith, bits
 
 -- the value of any word has 32 bits
 pub value-fits : (w : ℕ) → Fits32 (wordValue w)
-unfolding wordValue signed32 signedBy
-value-fits w = by (ltb (w % 4294967296) 2147483648) refl
-  where
-    by : (b : Bool) → ltb (w % 4294967296) 2147483648 ≡ b → Fits32 (signedBy b (w % 4294967296))
-    by true e = ltb-true (w % 4294967296) 2147483648 e
-    by false e = let h = ltb-false (w % 4294967296) 2147483648 e in omega arith
+unfolding wordValue
+value-fits w = signed-both (w % 4294967296) (omega arith) .1
 
-pub holds-constant : {w k a b c : ℕ} {v : ℤ} → Fits32 v → w ≡ bits32 v → k ≡ 0 → Holds w (nodeOf k a b c v)
+pub holds-constant : {w k a b c : ℕ} {v : ℤ} → Fits32 v → w ≡ bits32 v → k ≡ 0 → Holds w (node k a b c v)
 holds-constant {v} f e z =
     record {
       kind = ap wordKind e ∙ kind-bits v f ∙ sym z;
@@ -86,7 +82,7 @@ holds-constant {v} f e z =
 
 pub holds-step :
     {w k a b c : ℕ} {v : ℤ} → w ≡ word k a b c → a < 65536 → b < 65536 → c < 65536 → (k ≡ 0 → ⊥) →
-    Holds w (nodeOf k a b c v)
+    Holds w (node k a b c v)
 holds-step {k} {a} {b} {c} e ha hb hc n =
     record {
       kind = ap wordKind e ∙ kind-word k a b c ha hb hc;
@@ -97,8 +93,8 @@ holds-step {k} {a} {b} {c} e ha hb hc n =
     }
 
 pub holds-row :
-    {w k k′ a a′ b b′ c c′ : ℕ} {v v′ : ℤ} → Holds w (nodeOf k a b c v) → k ≡ k′ → a ≡ a′ → b ≡ b′ → c ≡ c′ → v ≡ v′ →
-    Holds w (nodeOf k′ a′ b′ c′ v′)
+    {w k k′ a a′ b b′ c c′ : ℕ} {v v′ : ℤ} → Holds w (node k a b c v) → k ≡ k′ → a ≡ a′ → b ≡ b′ → c ≡ c′ → v ≡ v′ →
+    Holds w (node k′ a′ b′ c′ v′)
 holds-row h pk pa pb pc pv = rw (← pk, ← pa, ← pb, ← pc, ← pv) h
 
 -- ---- packing, node by node

@@ -77,11 +77,15 @@ nodeFrom bs o =
       value = signed32 (word32 bs (o + 9));
     }
 
+-- t types, i inputs and n nodes, where they stand in a file
+abbrev pub scriptWith : ℕ → ℕ → ℕ → List ℕ → Script
+scriptWith t i n bs =
+    record {
+      types = numbered (λ j. typeFrom bs (typeOffset j)) 0 t;
+      inputs = numbered (λ j. inputFrom bs (inputOffset t j)) 0 i;
+      nodes = numbered (λ j. nodeFrom bs (nodeOffset t i j)) 0 n;
+    }
+
 -- the script that a file with right marks and length holds
 unfoldable pub scriptIn : List ℕ → Script
-scriptIn bs =
-    record {
-      types = numbered (λ j. typeFrom bs (typeOffset j)) 0 (headTypes bs);
-      inputs = numbered (λ j. inputFrom bs (inputOffset (headTypes bs) j)) 0 (headInputs bs);
-      nodes = numbered (λ j. nodeFrom bs (nodeOffset (headTypes bs) (headInputs bs) j)) 0 (headNodes bs);
-    }
+scriptIn bs = scriptWith (headTypes bs) (headInputs bs) (headNodes bs) bs

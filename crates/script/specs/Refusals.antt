@@ -127,11 +127,14 @@ bodyRefusal bs =
     orElse (earlier (markRefusal bs (headTypes bs) (headInputs bs) (headNodes bs)) (contentRefusal (scriptIn bs)))
     (structureRefusal (scriptIn bs))
 
--- Refusals 1 to 8 of a file. "1: below 8 bytes, or a length other than the counts give [length]."
-unfoldable pub fileRefusal : List ℕ → Option Refusal
-fileRefusal bs =
+-- "1 (below 8), 2 and 3 for the head, 1 for the total"
+unfoldable pub headRefusal : List ℕ → Option Refusal
+headRefusal bs =
     orElse (refusedUnless (leb 8 (length bs)) 1 (length bs))
     (orElse (refusedUnless (headMarked bs 0) 2 0)
     (orElse (refusedUnless (countsRight (headTypes bs) (headInputs bs) (headNodes bs)) 3 0)
-    (orElse (refusedUnless (eqb (length bs) (fileLength (headTypes bs) (headInputs bs) (headNodes bs))) 1 (length bs))
-    (bodyRefusal bs))))
+    (refusedUnless (eqb (length bs) (fileLength (headTypes bs) (headInputs bs) (headNodes bs))) 1 (length bs))))
+
+-- Refusals 1 to 8 of a file. "1: below 8 bytes, or a length other than the counts give [length]."
+unfoldable pub fileRefusal : List ℕ → Option Refusal
+fileRefusal bs = orElse (headRefusal bs) (bodyRefusal bs)

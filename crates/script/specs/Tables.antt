@@ -3,17 +3,18 @@
 -- tables shorter than the counts give 1 [0] before all else, tables whose file the reader would refuse give that refusal, then
 -- a short output 21." Assumes nothing.
 use Prim.Native.Nat.{ℕ}
-use mathlib.Core.Bool.{Bool, _&&_}
+use mathlib.Core.Bool.{Bool}
 use mathlib.Core.List.{List, _++_, map}
 use mathlib.Core.Option.{Option, none, some}
-use lib.IntN.{ℤ, pos}
-use lib.ListN.{length, getD, drop}
+use lib.IntN.{ℤ}
+use lib.ListN.{length, drop}
 use lib.Dec.{leb}
 use Rattle.lambdamix.specs.Script.{Script, FunctionType, Node}
 use Rattle.lambdamix.specs.Checker.{Refusal}
 use Rattle.lambdamix.specs.Structure.{orElse, refusedUnless}
 use Rattle.script.specs.File.{numbered, headTypes, headInputs, headNodes, scriptIn, fileBytes}
-use Rattle.script.specs.Refusals.{scriptRefusal, fileRefusal}
+use Rattle.script.specs.Refusals.{countsRight, contentOf, scriptRefusal, fileRefusal}
+use Rattle.script.specs.Columns.{typesIn, inputsIn, nodesIn, enough}
 
 -- two type columns, the input column, five node columns
 pub record Tables : Type 0 where
@@ -26,21 +27,18 @@ pub record Tables : Type 0 where
   pub c : List ℕ
   pub values : List ℤ
 
+abbrev pub tablesOf : List ℕ → List ℕ → List ℕ → List ℕ → List ℕ → List ℕ → List ℕ → List ℤ → Tables
+tablesOf ps rs is ks xs ys zs vs =
+    record { parameters = ps; results = rs; inputs = is; kinds = ks; a = xs; b = ys; c = zs; values = vs }
+
 unfoldable pub rowType : Tables → ℕ → FunctionType
-rowType x j = record { parameter = getD (x .parameters) j 0; result = getD (x .results) j 0 }
+rowType x j = typesIn (x .parameters) (x .results) j
 
 unfoldable pub rowInput : Tables → ℕ → ℕ
-rowInput x j = getD (x .inputs) j 0
+rowInput x j = inputsIn (x .inputs) j
 
 unfoldable pub rowNode : Tables → ℕ → Node
-rowNode x j =
-    record {
-      kind = getD (x .kinds) j 0;
-      a = getD (x .a) j 0;
-      b = getD (x .b) j 0;
-      c = getD (x .c) j 0;
-      value = getD (x .values) j (pos 0);
-    }
+rowNode x j = nodesIn (x .kinds) (x .a) (x .b) (x .c) (x .values) j
 
 -- the script of the first t types, i inputs and n nodes
 unfoldable pub tablesScript : ℕ → ℕ → ℕ → Tables → Script
@@ -49,10 +47,13 @@ tablesScript t i n x =
 
 unfoldable pub longEnough : ℕ → ℕ → ℕ → Tables → Bool
 longEnough t i n x =
-    (leb t (length (x .parameters)) && leb t (length (x .results)))
-    && (leb i (length (x .inputs))
-    && ((leb n (length (x .kinds)) && leb n (length (x .a)))
-    && (leb n (length (x .b)) && (leb n (length (x .c)) && leb n (length (x .values))))))
+    enough t i n (length (x .parameters)) (length (x .results)) (length (x .inputs)) (length (x .kinds)) (length (x .a))
+    (length (x .b)) (length (x .c)) (length (x .values))
+
+-- refusals 3, 4 and 5 of counts and tables
+unfoldable pub contentIn : ℕ → ℕ → ℕ → Tables → Option Refusal
+contentIn t i n x =
+    orElse (refusedUnless (countsRight t i n) 3 0) (contentOf t i n (rowType x) (rowInput x) (rowNode x))
 
 -- refusals 1 to 8 of counts and tables
 unfoldable pub tablesRefusal : ℕ → ℕ → ℕ → Tables → Option Refusal
@@ -63,10 +64,13 @@ unfoldable pub readRefusal : List ℕ → Tables → Option Refusal
 readRefusal bs x =
     orElse (fileRefusal bs) (refusedUnless (longEnough (headTypes bs) (headInputs bs) (headNodes bs) x) 21 0)
 
--- the writer's reply: 1 to 8 of the tables, then 21 for a short output
+-- "21: output too short [0]", for a text
+unfoldable pub roomRefusal : List ℕ → List ℕ → Option Refusal
+roomRefusal text out = refusedUnless (leb (length text) (length out)) 21 0
+
+-- the writer's reply: 1 to 8 of the tables, then 21
 unfoldable pub writeRefusal : ℕ → ℕ → ℕ → Tables → List ℕ → Option Refusal
-writeRefusal t i n x out =
-    orElse (tablesRefusal t i n x) (refusedUnless (leb (length (fileBytes (tablesScript t i n x))) (length out)) 21 0)
+writeRefusal t i n x out = orElse (tablesRefusal t i n x) (roomRefusal (fileBytes (tablesScript t i n x)) out)
 
 -- what a lent list holds once its first places are written; "the places past what was written" stay
 unfoldable pub over : {A : Type 0} → List A → List A → List A
@@ -91,7 +95,7 @@ unfoldable pub readTables : Option Refusal → List ℕ → Tables → Tables
 readTables none bs x = filled (scriptIn bs) x
 readTables (some f) bs x = x
 
--- the output after a call of the writer
-unfoldable pub writtenOutput : Option Refusal → Script → List ℕ → List ℕ
-writtenOutput none s out = over (fileBytes s) out
-writtenOutput (some f) s out = out
+-- the output after a text was written or refused
+unfoldable pub writtenOutput : Option Refusal → List ℕ → List ℕ → List ℕ
+writtenOutput none text out = over text out
+writtenOutput (some f) text out = out

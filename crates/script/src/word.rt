@@ -3,7 +3,7 @@ ghost use mathlib.Core.Path.{_≡_};
 ghost use lib.ListN.{getD};
 ghost use Rattle.script.specs.Bytes.{signed32, bits32};
 ghost use Rattle.script.specs.Words.{word, wordKind, wordA, wordB, wordC, wordValue, Holds};
-ghost use Rattle.script.specs.Columns.{nodeOf};
+ghost use Rattle.lambdamix.specs.Code.{node};
 
 // The bits of a signed number, and back.
 pub fn bits(z: i32) -> u32
@@ -75,7 +75,7 @@ pub fn word_at(s: &[u64], i: u16) -> u64
 
 // The word that holds a node.
 pub fn pack_node(k: u8, a: u16, b: u16, c: u16, v: i32) -> u64
-    ensures { λ r. ⌜ Holds r (nodeOf k a b c v) ⌝ }
+    ensures { λ r. ⌜ Holds r (node k a b c v) ⌝ }
 {
     if k == 0 {
         return bits(v) as u64;

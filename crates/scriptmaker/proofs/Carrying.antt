@@ -20,14 +20,12 @@ use Rattle.specializer.specs.declared.Reply.{Reply}
 use Rattle.specializer.specs.Making.{Stores}
 use Rattle.specializer.specs.Entry as Entry
 use Rattle.specializer.specs.Entry.{replied}
-use Rattle.printer.specs.declared.Listing.{Listing}
-use Rattle.printer.specs.Answers.{ListsTables}
 use Rattle.scriptmaker.specs.declared.Counts.{Counts}
 use Rattle.scriptmaker.specs.declared.ReadReply.{ReadReply}
 use Rattle.scriptmaker.specs.declared.WriteReply.{WriteReply}
 use Rattle.scriptmaker.specs.declared.CheckReply.{CheckReply}
 use Rattle.scriptmaker.specs.declared.MakeReply.{MakeReply}
-use Rattle.scriptmaker.specs.Calls.{countsOf, readReply, writeReply, listReply, checkReply, makeReply, Reads, Writes, Lists, Checks, Makes}
+use Rattle.scriptmaker.specs.Calls.{countsOf, readReply, writeReply, checkReply, makeReply, Reads, WritesText, Checks, Makes}
 
 pub reads :
     (bs : List ℕ) (before after : Tables) (r : Reading) (q : ReadReply) → Replies.Reads bs before after r → q ≡ readReply r →
@@ -35,19 +33,11 @@ pub reads :
 reads bs before after r q h e =
     record { reply = e ∙ ap (λ (a : Reading). readReply a) (h .reply); tables = h .tables }
 
+-- a text that is written, or that f refuses
 pub writes :
-    (n : Counts) (m : Script.Counts) (x : Tables) (before after : List ℕ) (r : Writing) (q : WriteReply) → m ≡ countsOf n →
-    Replies.Writes m x before after r → q ≡ writeReply r → Writes n x before after q
-writes n m x before after r q same h e =
-    let k : Replies.Writes (countsOf n) x before after r = subst (λ (o : Script.Counts). Replies.Writes o x before after r) same h in
-    record { reply = e ∙ ap (λ (a : Writing). writeReply a) (k .reply); output = k .output }
-
-pub lists :
-    (n : Counts) (m : Script.Counts) (x : Tables) (before after : List ℕ) (r : Listing) (q : WriteReply) → m ≡ countsOf n →
-    ListsTables m x before after r → q ≡ listReply r → Lists n x before after q
-lists n m x before after r q same h e =
-    let k : ListsTables (countsOf n) x before after r = subst (λ (o : Script.Counts). ListsTables o x before after r) same h in
-    record { reply = e ∙ ap (λ (a : Listing). listReply a) (k .reply); output = k .output }
+    {f : Option Refusal} {text before after : List ℕ} {r : Writing} {q : WriteReply} → Replies.WritesText f text before after r →
+    q ≡ writeReply r → WritesText f text before after q
+writes h e = record { reply = e ∙ ap (λ (a : Writing). writeReply a) (h .reply); output = h .output }
 
 pub checks :
     (n : Counts) (m : Script.Counts) (x : Tables) (v : Verdict) (q : CheckReply) → m ≡ countsOf n →
@@ -67,4 +57,5 @@ makes bare n m x zs fuel before after out left r q same h e =
       reply = e ∙ ap (λ (a : Made). makeReply (a .reply)) (k .gives);
       output = ap (λ (a : Made). a .output) (k .gives);
       stored = k .stored;
+      fit = k .fit;
     }

@@ -12,15 +12,15 @@ use Rattle.script.specs.declared.Reading.{Reading}
 use Rattle.script.specs.declared.Reading.the-variants as Reading
 use Rattle.script.specs.declared.Writing.{Writing}
 use Rattle.script.specs.declared.Writing.the-variants as Writing
+use Rattle.script.specs.File.{fileBytes}
 use Rattle.script.specs.Tables.{Tables, tablesScript, readRefusal, readTables, writeRefusal, writtenOutput}
 use Rattle.script.specs.Replies.{reading, writing}
 use Rattle.annotation.specs.Checks.{checkRefusal}
 use Rattle.residual.specs.AfterRun as AfterRun
 use Rattle.residual.specs.AfterRun.{made, unmade}
 use Rattle.specializer.specs.Making.{Stores, making, refusalBefore, storesAfter}
-use Rattle.printer.specs.declared.Listing.{Listing}
-use Rattle.printer.specs.declared.Listing.the-variants as Listing
-use Rattle.printer.specs.Answers.{listed, listedOutput, tablesText, listRefusal}
+use Rattle.specializer.specs.Entry.{GivenFit}
+use Rattle.printer.specs.Answers.{tablesText, listRefusal}
 use Rattle.scriptmaker.specs.declared.Counts.{Counts}
 use Rattle.scriptmaker.specs.declared.ReadReply.{ReadReply}
 use Rattle.scriptmaker.specs.declared.WriteReply.{WriteReply}
@@ -37,15 +37,10 @@ readReply (Reading.Read n) =
 readReply (Reading.Refused f) =
     record { number = f .number; place = f .place; counts = record { types = 0; inputs = 0; nodes = 0 } }
 
--- the writer's answer; a refusal has length 0
+-- the answer of writer and listing; a refusal has length 0
 unfoldable pub writeReply : Writing → WriteReply
 writeReply (Writing.Written k) = record { number = 0; place = 0; length = k }
 writeReply (Writing.Refused f) = record { number = f .number; place = f .place; length = 0 }
-
--- the listing's answer; a refusal has length 0
-unfoldable pub listReply : Listing → WriteReply
-listReply (Listing.Listed k) = record { number = 0; place = 0; length = k }
-listReply (Listing.Refused f) = record { number = f .number; place = f .place; length = 0 }
 
 -- the checker's answer
 unfoldable pub checkReply : Option Refusal → CheckReply
@@ -62,23 +57,26 @@ pub record Reads (bs : List ℕ) (before after : Tables) (r : ReadReply) : Type 
   pub reply : r ≡ readReply (reading (readRefusal bs before) bs)
   pub tables : after ≡ readTables (readRefusal bs before) bs before
 
--- writing: the reply, and the output after it
-pub record Writes (n : Counts) (x : Tables) (before after : List ℕ) (r : WriteReply) : Type 0 where
-  pub reply :
-      r ≡ writeReply (writing (writeRefusal (n .types) (n .inputs) (n .nodes) x before) (tablesScript (n .types) (n .inputs) (n .nodes) x))
-  pub output :
-      after ≡ writtenOutput (writeRefusal (n .types) (n .inputs) (n .nodes) x before) (tablesScript (n .types) (n .inputs) (n .nodes) x) before
+-- a text that is written or refused: the reply, and the output after it
+pub record WritesText (f : Option Refusal) (text before after : List ℕ) (r : WriteReply) : Type 0 where
+  pub reply : r ≡ writeReply (writing f text)
+  pub output : after ≡ writtenOutput f text before
 
--- listing: the reply, and the output after it
-pub record Lists (n : Counts) (x : Tables) (before after : List ℕ) (r : WriteReply) : Type 0 where
-  pub reply : r ≡ listReply (listed (listRefusal (countsOf n) x before) (tablesText (countsOf n) x))
-  pub output : after ≡ listedOutput (listRefusal (countsOf n) x before) (tablesText (countsOf n) x) before
+-- writing
+abbrev pub Writes : Counts → Tables → List ℕ → List ℕ → WriteReply → Type 0
+Writes n x before after r =
+    WritesText (writeRefusal (n .types) (n .inputs) (n .nodes) x before) (fileBytes (tablesScript (n .types) (n .inputs) (n .nodes) x))
+    before after r
+
+-- listing
+abbrev pub Lists : Counts → Tables → List ℕ → List ℕ → WriteReply → Type 0
+Lists n x before after r = WritesText (listRefusal (countsOf n) x before) (tablesText (countsOf n) x) before after r
 
 -- checking: the reply
 pub record Checks (n : Counts) (x : Tables) (r : CheckReply) : Type 0 where
   pub reply : r ≡ checkReply (checkRefusal (n .types) (n .inputs) (n .nodes) x)
 
--- making, or the bare run: the reply, the output after it, and the stores after it
+-- making, or the bare run: the reply, the output after it, the stores after it, and that a run was given numbers of 32 bits
 pub record Makes
     (bare : Bool)
     (n : Counts)
@@ -92,3 +90,4 @@ pub record Makes
   pub reply : r ≡ makeReply (making bare (n .types) (n .inputs) (n .nodes) x zs fuel before out .reply)
   pub output : left ≡ making bare (n .types) (n .inputs) (n .nodes) x zs fuel before out .output
   pub stored : after ≡ storesAfter (refusalBefore bare (n .types) (n .inputs) (n .nodes) x zs fuel before) before
+  pub fit : refusalBefore bare (n .types) (n .inputs) (n .nodes) x zs fuel before ≡ none → GivenFit (countsOf n) x zs

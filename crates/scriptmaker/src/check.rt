@@ -6,7 +6,7 @@ use annotation::check::check;
 use script::Verdict;
 ghost use mathlib.Core.Path.{_≡_};
 ghost use Rattle.script.specs.Replies.{refusalOf};
-ghost use Rattle.script.specs.Columns.{tablesOf};
+ghost use Rattle.script.specs.Tables.{tablesOf};
 ghost use Rattle.scriptmaker.specs.Calls.{checkReply, Checks};
 
 fn reply(v: Verdict) -> CheckReply

@@ -2,30 +2,12 @@
 use crate::Counts;
 use crate::WriteReply;
 use crate::counted;
-use printer::Listing;
+use crate::write::reply;
 use printer::list::list;
-ghost use mathlib.Core.Path.{_≡_};
-ghost use Rattle.script.specs.Columns.{tablesOf};
-ghost use Rattle.scriptmaker.specs.Calls.{listReply, Lists};
+ghost use Rattle.script.specs.Tables.{tablesOf};
+ghost use Rattle.scriptmaker.specs.Calls.{Lists};
 
-fn reply(r: Listing) -> WriteReply
-    ensures { λ q. ⌜ q ≡ listReply r ⌝ }
-{
-    match r {
-        Listing::Listed(k) => WriteReply {
-            number: 0,
-            place: 0,
-            length: k,
-        },
-        Listing::Refused(f) => WriteReply {
-            number: f.number,
-            place: f.place,
-            length: 0,
-        },
-    }
-}
-
-// Refusals 1 to 8 as the file of the tables, then 21; what is not refused is listed.
+// Tables shorter than the counts: 1 [0]; then 3 to 8, then 21; what is not refused is listed.
 #[no_mangle]
 pub extern "C" fn scriptmaker_list(
     n: Counts,

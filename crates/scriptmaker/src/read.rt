@@ -4,7 +4,7 @@ use crate::ReadReply;
 use file::reader::read;
 use script::Reading;
 ghost use mathlib.Core.Path.{_≡_};
-ghost use Rattle.script.specs.Columns.{tablesOf};
+ghost use Rattle.script.specs.Tables.{tablesOf};
 ghost use Rattle.scriptmaker.specs.Calls.{readReply, Reads};
 
 fn reply(r: Reading) -> ReadReply

@@ -5,10 +5,10 @@ use crate::counted;
 use file::writer::write;
 use script::Writing;
 ghost use mathlib.Core.Path.{_≡_};
-ghost use Rattle.script.specs.Columns.{tablesOf};
+ghost use Rattle.script.specs.Tables.{tablesOf};
 ghost use Rattle.scriptmaker.specs.Calls.{writeReply, Writes};
 
-fn reply(r: Writing) -> WriteReply
+pub(crate) fn reply(r: Writing) -> WriteReply
     ensures { λ q. ⌜ q ≡ writeReply r ⌝ }
 {
     match r {

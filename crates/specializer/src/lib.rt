@@ -1,10 +1,10 @@
 // The specializer, the paper's maker: it evaluates the static steps of a script and leaves residual code.
-pub mod before;
-pub mod clear;
+mod before;
+mod clear;
 pub mod limits;
 pub mod make;
-pub mod run;
-pub mod start;
+mod run;
+mod start;
 
 use script::Refusal;
 

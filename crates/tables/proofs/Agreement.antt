@@ -6,20 +6,19 @@ use mathlib.Core.List.{List, [], _∷_}
 use mathlib.Core.Option.{Option, none, some}
 use mathlib.Core.Logic.{⊎-elim}
 use native.Mathlib.Omega.{arith}
-use lib.ListN.{length}
 use lib.Dec.{leb, ltb}
 use borrow.Author.Tests.{ltb-true, eqb-true}
 use Rattle.lambdamix.specs.declared.Use.{Use}
 use Rattle.lambdamix.specs.declared.Use.the-variants.{Nothing, Name, Binder, Child, ParameterType, Operation}
 use Rattle.lambdamix.specs.Limits.{maxHeight}
-use Rattle.lambdamix.specs.Script.{Script, Node, rowOf, fields, ifChild, childFields, children, nodeAt, blankNode, inputCount, nodeCount, root}
+use Rattle.lambdamix.specs.Script.{Script, Node, rowOf, fields, ifChild, childFields, children, inputCount}
 use Rattle.lambdamix.specs.Structure.{occurrences, uses, usedOnce, useRefusal, lowEnough, heightRefusal, scopeRefusal, structureRefusal, member, firstFailing, refusedAt, orElse}
 use Rattle.lambdamix.proofs.Tests.{and-both, or-cases}
 use Rattle.script.specs.File.{numbered}
 use Rattle.script.specs.Refusals.{fieldRight, fieldsRight, nodeFits}
-use Rattle.script.specs.Tables.{Tables, rowNode, rowInput, tablesScript}
+use Rattle.script.specs.Tables.{Tables, rowNode, tablesScript}
 use Rattle.tables.specs.Walks.{columnsOf, usesBelow, usedOnceAt, heightAt, tooHighAt, unboundAt}
-use Rattle.script.proofs.Numbered.{length-numbered, getD-numbered}
+use Rattle.script.proofs.Rows.{input-count, node-count, root-last, node-row}
 use Rattle.script.proofs.RefusalLaws.{passes}
 use Rattle.script.proofs.Searching.{first-same}
 use Rattle.tables.proofs.Reaching.{IsChildOf, walk-finds-lowest}
@@ -75,32 +74,16 @@ module _ (t i n : ℕ) (x : Tables) where
           let e : 0 + n ≡ n = omega arith in
           uses-more (rowNode x) 0 n j ∙ rw (e, children-at x n, go n j)
 
-  script-node : (j : ℕ) → j < n → nodeAt (tablesScript t i n x) j ≡ rowNode x j
-  unfolding tablesScript nodeAt
-  script-node j h = let e : 0 + j ≡ j = omega arith in getD-numbered (rowNode x) 0 n blankNode j h ∙ ap (rowNode x) e
-
-  script-count : nodeCount (tablesScript t i n x) ≡ n
-  unfolding nodeCount tablesScript
-  script-count = length-numbered (rowNode x) 0 n
-
-  script-inputs : length (tablesScript t i n x .inputs) ≡ i
-  unfolding tablesScript
-  script-inputs = length-numbered (rowInput x) 0 i
-
-  script-root : root (tablesScript t i n x) ≡ n - 1
-  unfolding root
-  script-root = ap (λ (k : ℕ). k - 1) script-count
-
   use-agrees : useRefusal (tablesScript t i n x) ≡ refusedAt 6 (firstFailing (usedOnceAt (columnsOf x) n) 0 (n - 1))
   unfolding useRefusal usedOnce usedOnceAt
   use-agrees =
-      ap (refusedAt 6) (ap (firstFailing (usedOnce (tablesScript t i n x)) 0) script-root
+      ap (refusedAt 6) (ap (firstFailing (usedOnce (tablesScript t i n x)) 0) (root-last t i n x)
       ∙ first-same (usedOnce (tablesScript t i n x)) (usedOnceAt (columnsOf x) n) 0 (n - 1) (λ j l. rw (script-uses j)))
 
   scope-agrees : 1 ≤ n → scopeRefusal (tablesScript t i n x) ≡ refusedAt 8 (unboundAt (columnsOf x) i (n - 1) [])
   unfolding scopeRefusal inputCount
   scope-agrees h =
-      ap (refusedAt 8) (rw (script-root, script-inputs) (unbound-tree x (tablesScript t i n x) n script-node i [] (n - 1) (omega arith)))
+      ap (refusedAt 8) (rw (root-last t i n x, input-count t i n x) (unbound-tree x (tablesScript t i n x) n (node-row t i n x) i [] (n - 1) (omega arith)))
 
   module _ (fit : (j : ℕ) → j < n → nodeFits t i (rowNode x) j ≡ true) where
     script-falls : (j m : ℕ) → j < n → IsChildOf (columnsOf x) j m → m < j
@@ -111,9 +94,9 @@ module _ (t i n : ℕ) (x : Tables) where
         → heightRefusal (tablesScript t i n x) ≡ refusedAt 7 (tooHighAt (columnsOf x) (n - 1))
     unfolding heightRefusal lowEnough usedOnceAt
     height-agrees h e =
-        ap (refusedAt 7) (ap (firstFailing (lowEnough (tablesScript t i n x)) 0) script-count
+        ap (refusedAt 7) (ap (firstFailing (lowEnough (tablesScript t i n x)) 0) (node-count t i n x)
         ∙ first-same (lowEnough (tablesScript t i n x)) (λ j. leb (heightAt (columnsOf x) j) maxHeight) 0 n
-        (λ j l. rw (height-tree x (tablesScript t i n x) n script-node j (omega arith)))
+        (λ j l. rw (height-tree x (tablesScript t i n x) n (node-row t i n x) j (omega arith)))
         ∙ sym (walk-finds-lowest (columnsOf x) n script-falls h
         (λ j l. eqb-true _ 1 (passes (usedOnceAt (columnsOf x) n) (n - 1) e j l))))
 

@@ -2,7 +2,7 @@
 -- searches. Assumes nothing.
 use Prim.Native.Nat.{ℕ, zero, suc, _+_, _<_, _≤_}
 use mathlib.Core.Path.{_≡_, refl, sym, ap, _∙_}
-use mathlib.Core.Bool.{Bool, true, false, _&&_, _||_}
+use mathlib.Core.Bool.{Bool, true, false, _&&_, _||_, and-true}
 use mathlib.Core.List.{List, [], _∷_}
 use mathlib.Core.Option.{Option, some}
 use native.Mathlib.Omega.{arith}
@@ -21,17 +21,13 @@ use Rattle.lambdamix.specs.Structure.{firstFailing, orElse, refusedUnless}
 use Rattle.lambdamix.proofs.Tests.{and-both}
 use Rattle.lambdamix.proofs.Signed.{held, same-bits}
 use Rattle.script.specs.Kinds.{useOf, usesTable}
-use Rattle.script.specs.Columns.{nodeOf, contentIn}
+use Rattle.lambdamix.specs.Code.{node}
 use Rattle.script.specs.declared.Found.{Found}
 use Rattle.script.specs.Refusals.{fieldRight, fieldsRight, nodeFits, isNone, otherPair, typeFits, inputFits, countsRight, refusedRecord, contentOf}
 use Rattle.script.specs.File.{typeOffset, inputOffset, nodeOffset}
-use Rattle.script.specs.Tables.{Tables, rowType, rowInput, rowNode}
+use Rattle.script.specs.Tables.{Tables, rowType, rowInput, rowNode, contentIn}
 use Rattle.script.specs.Replies.{foundAt}
 use Rattle.script.proofs.TableLaws.{every, row-uses}
-
-and-true : (b : Bool) → (b && true) ≡ b
-and-true true = refl
-and-true false = refl
 
 and-false : (b : Bool) → (b && false) ≡ false
 and-false true = refl
@@ -73,12 +69,12 @@ unfolding fieldsRight
 row-test t n j u v w a b c p p′ q q′ r r′ = cc (and-true (fieldRight t n j w c))
 
 module _ (t n j k a b c : ℕ) where
-  row-is : (v : ℤ) → fieldsRight t n j (rowOf (nodeOf k a b c v) .uses) (fields (nodeOf k a b c v)) ≡ fieldsRight t n j (getD usesTable k []) (a ∷ b ∷ c ∷ [])
+  row-is : (v : ℤ) → fieldsRight t n j (rowOf (node k a b c v) .uses) (fields (node k a b c v)) ≡ fieldsRight t n j (getD usesTable k []) (a ∷ b ∷ c ∷ [])
   unfolding fields
-  row-is v = ap (λ (us : List Use). fieldsRight t n j us (a ∷ b ∷ c ∷ [])) (row-uses (nodeOf k a b c v))
+  row-is v = ap (λ (us : List Use). fieldsRight t n j us (a ∷ b ∷ c ∷ [])) (row-uses (node k a b c v))
 
   by-own-row : (v : ℤ) → k < 13
-      → ((eqb k 0 || eqZ v (pos 0)) && fieldsRight t n j (getD usesTable k []) (a ∷ b ∷ c ∷ [])) ≡ nodeFits t n (λ j. nodeOf k a b c v) j
+      → ((eqb k 0 || eqZ v (pos 0)) && fieldsRight t n j (getD usesTable k []) (a ∷ b ∷ c ∷ [])) ≡ nodeFits t n (λ j. node k a b c v) j
   unfolding nodeFits
   by-own-row v h = and-swap (eqb k 0 || eqZ v (pos 0)) (fieldsRight t n j (getD usesTable k []) (a ∷ b ∷ c ∷ [])) ∙ simp (lt-ltb k 13 h, row-is v)
 
@@ -87,17 +83,17 @@ module _ (t n j k a b c : ℕ) where
 
   -- What holds by the row of kind m holds of a node whose kind is m; its value comes as it is read back from its bits.
   pub of-kind : (m : ℕ) → 0 < m → m < 13 → k ≡ m → {us : List Use} → us ≡ getD usesTable m [] → {v : ℤ} → SFits w32 v
-      → (eqZ (held w32 v) (pos 0) && fieldsRight t n j us (a ∷ b ∷ c ∷ [])) ≡ nodeFits t n (λ j. nodeOf k a b c v) j
+      → (eqZ (held w32 v) (pos 0) && fieldsRight t n j us (a ∷ b ∷ c ∷ [])) ≡ nodeFits t n (λ j. node k a b c v) j
   of-kind m l h e r {v} f = rw (toZ-ofZ f, same-row m e r) (rw (ne-eqb k 0 (λ p. omega arith)) at (by-own-row v (omega arith)))
 
   pub of-constant : k ≡ 0 → {us : List Use} → us ≡ getD usesTable 0 [] → (v : ℤ)
-      → fieldsRight t n j us (a ∷ b ∷ c ∷ []) ≡ nodeFits t n (λ j. nodeOf k a b c v) j
+      → fieldsRight t n j us (a ∷ b ∷ c ∷ []) ≡ nodeFits t n (λ j. node k a b c v) j
   of-constant e r v = rw (same-row 0 e r) (rw (eq-eqb k 0 e) at (by-own-row v (omega arith)))
 
-  pub held-value : {v : ℤ} → SFits w32 v → nodeFits t n (λ j. nodeOf k a b c (held w32 v)) j ≡ nodeFits t n (λ j. nodeOf k a b c v) j
-  held-value f = ap (λ (z : ℤ). nodeFits t n (λ j. nodeOf k a b c z) j) (toZ-ofZ f)
+  pub held-value : {v : ℤ} → SFits w32 v → nodeFits t n (λ j. node k a b c (held w32 v)) j ≡ nodeFits t n (λ j. node k a b c v) j
+  held-value f = ap (λ (z : ℤ). nodeFits t n (λ j. node k a b c z) j) (toZ-ofZ f)
 
-  pub wrong-kind : (v : ℤ) → 13 ≤ k → false ≡ nodeFits t n (λ j. nodeOf k a b c v) j
+  pub wrong-kind : (v : ℤ) → 13 ≤ k → false ≡ nodeFits t n (λ j. node k a b c v) j
   unfolding nodeFits
   wrong-kind v h = simp (le-ltb k 13 h)
 
@@ -113,7 +109,7 @@ value-other f e = sym (zero-bits f) ∙ ne-eqb _ 0 e
 
 -- what is told of a node as its columns' reads give it
 pub node-told : (t n j : ℕ) (f : ℕ → Node) {k a b c : ℕ} {v : ℤ} {r e : Bool}
-    → r ≡ nodeFits t n (λ j. nodeOf k a b c v) j → k ≡ f j .kind → a ≡ f j .a → b ≡ f j .b → c ≡ f j .c → v ≡ f j .value
+    → r ≡ nodeFits t n (λ j. node k a b c v) j → k ≡ f j .kind → a ≡ f j .a → b ≡ f j .b → c ≡ f j .c → v ≡ f j .value
     → r ≡ e → nodeFits t n f j ≡ e
 unfolding nodeFits
 node-told t n j f h p q r s u g = simp (p, q, r, s, u) at (sym h) ∙ g

@@ -10,11 +10,11 @@ use native.Mathlib.Nat.{max-zero}
 use native.Mathlib.Numerals.{add-one}
 use lib.ListN.{getD}
 use lib.Dec.{leb}
-use borrow.Author.Tests.{le-ltb, le-leb, lt-leb, leb-true}
+use borrow.Author.Tests.{le-leb, lt-leb, leb-true}
 use Rattle.lambdamix.specs.Limits.{maxHeight}
-use Rattle.lambdamix.specs.Falling.{guarded, below}
+use Rattle.lambdamix.specs.Falling.{below}
 use Rattle.lambdamix.specs.Structure.{firstBy, lowest, lowestBy}
-use Rattle.lambdamix.proofs.Falling.{below-at, falling-step}
+use Rattle.lambdamix.proofs.Falling.{below-at, falling-step, below-out}
 use Rattle.script.specs.Words.{Columns, columnsIn}
 use Rattle.tables.specs.Walks.{useAt, wordChildren, childrenAt, gathered, heightStep, heightAt, tooHighStep, tooHighAt, Tall, low, high, TallJoin, TallNode, TallOver}
 
@@ -34,11 +34,6 @@ lowest-second i j h = go (leb i j) refl
     go : (b : Bool) → leb i j ≡ b → lowestBy b i j ≡ some j
     go true e = ap some (omega (arith, leb-true i j e))
     go false e = refl
-
--- a number that is not below gets the default
-pub below-out : {A : Type 0} (n : ℕ) (d : A) (f : ℕ → A) (m : ℕ) → n ≤ m → below n d f m ≡ d
-unfolding below guarded
-below-out n d f m h = rw (le-ltb m n h)
 
 -- ---- a node over its children, which stand in its word
 

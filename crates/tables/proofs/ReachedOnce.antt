@@ -202,7 +202,7 @@ reached-once s e f =
 pub file-each-reached-once : (bs : List ℕ) → fileRefusal bs ≡ none → EachReachedOnce (scriptIn bs)
 unfolding fileRefusal bodyRefusal structureRefusal
 file-each-reached-once bs e =
-    let f = neither _ _ (neither _ _ (neither _ _ (neither _ _ (neither _ _ e .1) .1) .1) .1) in
+    let f = neither _ _ (neither _ _ e .1) in
     reached-once (scriptIn bs) (no-earlier _ _ (f .0) .1) (neither _ _ (f .1) .0)
 
 -- Of a script of which none of refusals 3 to 8 holds, every node is reached from the root exactly once.

@@ -13,11 +13,11 @@ use lib.Dec.{leb}
 use borrow.Author.Tests.{leb-true, leb-false, eq-eqb, ne-eqb}
 use Rattle.lambdamix.specs.Falling.{below}
 use Rattle.lambdamix.specs.Structure.{lowest, lowestBy, member}
-use Rattle.lambdamix.proofs.Falling.{below-at, falling-step}
+use Rattle.lambdamix.proofs.Falling.{below-at, falling-step, below-out}
 use Rattle.script.specs.Words.{wordA, Columns, columnsIn}
 use Rattle.tables.specs.Walks.{useAt, keptIf, gathered, wordChildren, heightAt, unboundName, unboundUnder, unboundStep, unboundAt, innermost, Kept, Place, nowhere, node, Scoped}
 use Rattle.tables.proofs.Shapes.{shape, wordShape}
-use Rattle.tables.proofs.Heights.{lowest-none, below-out, word-children, word-height}
+use Rattle.tables.proofs.Heights.{lowest-none, word-children, word-height}
 
 -- kept names are the same list
 pub innermost-same : (d : ℕ) (xs ys : List ℕ) → Kept d xs ys → innermost ys d ≡ innermost xs d

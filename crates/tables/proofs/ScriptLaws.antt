@@ -1,7 +1,7 @@
 -- The script that tables hold has the tables' rows, so the contents of either are refused alike; and where nothing of the contents
 -- is refused, every node is right; which tables are too short. Assumes nothing.
 use Prim.Native.Nat.{ℕ, min, _<_, _≤_}
-use mathlib.Core.Path.{_≡_, refl, sym, ap, ap₂, _∙_}
+use mathlib.Core.Path.{_≡_, refl, sym, ap₂, _∙_}
 use mathlib.Core.Bool.{Bool, true, false, not, _&&_}
 use mathlib.Core.List.{List}
 use mathlib.Core.Option.{Option, none, some}
@@ -18,8 +18,8 @@ use Rattle.lambdamix.specs.Checker.{Refusal}
 use Rattle.lambdamix.proofs.Tests.{and-both}
 use Rattle.script.specs.File.{typeOffset, inputOffset, nodeOffset}
 use Rattle.script.specs.Refusals.{typeFits, inputFits, nodeFits, otherPair, samePair, refusedRecord, countsRight, contentOf, contentRefusal, scriptRefusal}
-use Rattle.script.specs.Tables.{Tables, rowType, rowInput, rowNode, tablesScript, longEnough, tablesRefusal}
-use Rattle.script.specs.Columns.{tablesOf, contentIn, enough}
+use Rattle.script.specs.Tables.{Tables, rowType, rowInput, rowNode, tablesScript, longEnough, tablesRefusal, tablesOf, contentIn}
+use Rattle.script.specs.Columns.{enough}
 use Rattle.script.specs.Words.{Packed}
 use Rattle.tables.specs.Walks.{Structured}
 use Rattle.script.specs.Replies.{foundAt, refusalOf}
@@ -28,7 +28,8 @@ use Rattle.script.specs.declared.Refusal as Refused
 use Rattle.script.specs.declared.Verdict.{Verdict}
 use Rattle.script.specs.declared.Verdict.the-variants as Verdict
 use Rattle.tables.specs.PackedTables.{HoldNodes, PackedNodes, PackedTables}
-use Rattle.script.proofs.RefusalLaws.{no-record, passes}
+use Rattle.script.proofs.RefusalLaws.{no-record, passes, neither, not-refused}
+use Rattle.script.proofs.Verdicts.{told-none}
 use Rattle.script.proofs.Sound.{in-limits}
 use Rattle.script.proofs.Numbered.{length-numbered, row-at}
 use Rattle.script.proofs.Searching.{first-same}
@@ -87,29 +88,18 @@ module _ (t i n : ℕ) (x : Tables) where
       )
       (or-assoc (refusedUnless (countsRight t i n) 3 0) (contentOf t i n (rowType x) (rowInput x) (rowNode x)) _)
 
--- of three answers in a row, none at all says that the last is none
-last-none : {A : Type 0} (a b c : Option A) → orElse a (orElse b c) ≡ none → c ≡ none
-unfolding orElse
-last-none none none c e = e
-last-none none (some b) c e = let z : _≡_ {A = ℕ} 0 1 = cc in let w : ⊥ = omega arith in absurd w
-last-none (some a) b c e = let z : _≡_ {A = ℕ} 0 1 = cc in let w : ⊥ = omega arith in absurd w
-
 -- Where the contents are not refused, every node is right.
 pub nodes-right : (t i n : ℕ) (f : ℕ → FunctionType) (g : ℕ → ℕ) (h : ℕ → Node) → contentOf t i n f g h ≡ none
     → (j : ℕ) → j < n → nodeFits t i h j ≡ true
 unfolding contentOf
 nodes-right t i n f g h e j l =
-    passes (nodeFits t i h) n (no-record 5 (nodeOffset t i) _ (last-none _ _ _ e)) j l
+    passes (nodeFits t i h) n (no-record 5 (nodeOffset t i) _ (neither _ _ (neither _ _ e .1) .1)) j l
 
 -- with nothing of 3, 4 and 5 the counts are right, and so are the contents
 content-passes : (t i n : ℕ) (x : Tables) → contentIn t i n x ≡ none
     → (countsRight t i n ≡ true) × (contentOf t i n (rowType x) (rowInput x) (rowNode x) ≡ none)
-unfolding contentIn refusedUnless orElse
-content-passes t i n x e = by (countsRight t i n) (contentOf t i n (rowType x) (rowInput x) (rowNode x)) e
-  where
-    by : (b : Bool) (r : Option Refusal) → orElse (refusedUnless b 3 0) r ≡ none → (b ≡ true) × (r ≡ none)
-    by true r f = (refl, f)
-    by false r f = let z : _≡_ {A = ℕ} 0 1 = cc in let w : ⊥ = omega arith in absurd w
+unfolding contentIn
+content-passes t i n x e = let (counts, contents) = neither _ _ e in (not-refused _ _ _ counts, contents)
 
 module _ (t i n : ℕ) (ps rs is ks xs ys zs : List ℕ) (vs : List ℤ) where
   abbrev columns : Tables
@@ -131,13 +121,9 @@ module _ (t i n : ℕ) (ps rs is ks xs ys zs : List ℕ) (vs : List ℤ) where
 
   module _ {v : Verdict} (p : refusalOf v ≡ contentIn t i n columns) (q : v ≡ Verdict.Passed) {before ws : List ℕ}
       (k : PackedTables v n columns before ws) (h : min n maxNodes ≤ length before) where
-    no-content : contentIn t i n columns ≡ none
-    unfolding refusalOf
-    no-content = sym p ∙ ap refusalOf q
-
     pub refused-by-structure : (r : Verdict) → Structured ws i n r → refusalOf r ≡ scriptRefusal (tablesScript t i n columns)
     unfolding refusalOf orElse
-    refused-by-structure r m = rw (script-of-tables t i n columns, ← p, q) (structure-after no-content r (k .nodes q h) m)
+    refused-by-structure r m = rw (script-of-tables t i n columns, ← p, q) (structure-after (told-none p q) r (k .nodes q h) m)
 
     pub packed-by-content : (r : Verdict) → PackedTables r n columns before ws
     packed-by-content r = record { nodes = λ e l. k .nodes q h }
@@ -151,9 +137,8 @@ pub packed-by-search :
     (t i : ℕ) (p q : Option ℕ) (r : Found) {v : Verdict} {n : ℕ} {x : Tables} {before after : List ℕ}
     → refusalOf v ≡ orElse (refusedRecord 4 typeOffset p) (orElse (refusedRecord 4 (inputOffset t) q) (refusedRecord 5 (nodeOffset t i) (foundAt r)))
     → PackedNodes r n (rowNode x) after → PackedTables v n x before after
-unfolding refusalOf
 packed-by-search t i p q r e k =
-    record { nodes = λ h l. k .all (no-record 5 (nodeOffset t i) (foundAt r) (last-none _ _ _ (sym e ∙ ap refusalOf h))) }
+    record { nodes = λ h l. k .all (no-record 5 (nodeOffset t i) (foundAt r) (neither _ _ (neither _ _ (told-none e h) .1) .1)) }
 
 -- columns that are long enough hold the nodes
 pub long-holds : (t i n ps rs is : ℕ) {ks xs ys zs : List ℕ} {vs : List ℤ} {b : Bool}

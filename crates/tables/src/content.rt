@@ -22,7 +22,9 @@ ghost use Rattle.lambdamix.specs.Structure.{firstFailing};
 ghost use Rattle.script.specs.Refusals.{otherPair, typeFits, inputFits, fieldRight, fieldsRight, nodeFits};
 ghost use Rattle.script.specs.Replies.{foundAt, refusalOf};
 ghost use Rattle.script.specs.Kinds.{usesTable};
-ghost use Rattle.script.specs.Columns.{typesIn, inputsIn, nodesIn, nodeOf, tablesOf, contentIn};
+ghost use Rattle.lambdamix.specs.Code.{node};
+ghost use Rattle.script.specs.Columns.{typesIn, inputsIn, nodesIn};
+ghost use Rattle.script.specs.Tables.{tablesOf, contentIn};
 ghost use Rattle.tables.specs.PackedTables.{HoldNodes, PackedNodes, PackedTables};
 
 fn wide(x: u16) -> usize
@@ -32,14 +34,14 @@ fn wide(x: u16) -> usize
 }
 
 // Whether a field of a node holds what its use asks for.
-fn field_right(types: u16, inputs: u16, node: NodeNumber, u: Use, f: u16) -> bool
-    ensures { λ r. ⌜ r ≡ fieldRight types inputs (node .0) u f ⌝ }
+fn field_right(types: u16, inputs: u16, i: NodeNumber, u: Use, f: u16) -> bool
+    ensures { λ r. ⌜ r ≡ fieldRight types inputs (i .0) u f ⌝ }
 {
     match u {
         Use::Nothing => f == 0,
         Use::Name => true,
         Use::Binder => inputs <= f,
-        Use::Child => f < node.0,
+        Use::Child => f < i.0,
         Use::ParameterType => (f as usize) < 2 + (types as usize),
         Use::Operation => f < 6,
     }
@@ -56,15 +58,15 @@ fn row_of(kind: u8) -> Row
 }
 
 // Whether the fields of a node hold what the row asks for.
-fn fields_right(types: u16, inputs: u16, node: NodeNumber, row: Row, a: u16, b: u16, c: u16) -> bool
-    ensures { λ r. ⌜ r ≡ fieldsRight types inputs (node .0) (row .0 ∷ row .1 ∷ row .2 ∷ []) (a ∷ b ∷ c ∷ []) ⌝ }
+fn fields_right(types: u16, inputs: u16, i: NodeNumber, row: Row, a: u16, b: u16, c: u16) -> bool
+    ensures { λ r. ⌜ r ≡ fieldsRight types inputs (i .0) (row .0 ∷ row .1 ∷ row .2 ∷ []) (a ∷ b ∷ c ∷ []) ⌝ }
 {
     let u = row.0;
     let v = row.1;
     let w = row.2;
-    if field_right(types, inputs, node, u, a) {
-        if field_right(types, inputs, node, v, b) {
-            return field_right(types, inputs, node, w, c);
+    if field_right(types, inputs, i, u, a) {
+        if field_right(types, inputs, i, v, b) {
+            return field_right(types, inputs, i, w, c);
         }
     }
     false
@@ -74,17 +76,17 @@ fn fields_right(types: u16, inputs: u16, node: NodeNumber, row: Row, a: u16, b: 
 fn step_right(
     types: u16,
     inputs: u16,
-    node: NodeNumber,
+    i: NodeNumber,
     row: Row,
     a: u16,
     b: u16,
     c: u16,
     value: i32,
 ) -> bool
-    ensures { λ r. ⌜ r ≡ (eqZ value (pos 0) && fieldsRight types inputs (node .0) (row .0 ∷ row .1 ∷ row .2 ∷ []) (a ∷ b ∷ c ∷ [])) ⌝ }
+    ensures { λ r. ⌜ r ≡ (eqZ value (pos 0) && fieldsRight types inputs (i .0) (row .0 ∷ row .1 ∷ row .2 ∷ []) (a ∷ b ∷ c ∷ [])) ⌝ }
 {
     if value == 0 {
-        fields_right(types, inputs, node, row, a, b, c)
+        fields_right(types, inputs, i, row, a, b, c)
     } else {
         false
     }
@@ -94,7 +96,7 @@ fn step_right(
 fn static_right(
     types: u16,
     inputs: u16,
-    node: NodeNumber,
+    i: NodeNumber,
     kind: u8,
     a: u16,
     b: u16,
@@ -102,15 +104,15 @@ fn static_right(
     value: i32,
 ) -> bool
     requires { ⌜ (2 ≤ kind) × (kind < 8) ⌝ }
-    ensures { λ r. ⌜ r ≡ nodeFits types inputs (λ j. nodeOf kind a b c value) (node .0) ⌝ }
+    ensures { λ r. ⌜ r ≡ nodeFits types inputs (λ j. node kind a b c value) (i .0) ⌝ }
 {
     match kind {
-        2 => step_right(types, inputs, node, row_of(2), a, b, c, value),
-        3 => step_right(types, inputs, node, row_of(3), a, b, c, value),
-        4 => step_right(types, inputs, node, row_of(4), a, b, c, value),
-        5 => step_right(types, inputs, node, row_of(5), a, b, c, value),
-        6 => step_right(types, inputs, node, row_of(6), a, b, c, value),
-        _ => step_right(types, inputs, node, row_of(7), a, b, c, value),
+        2 => step_right(types, inputs, i, row_of(2), a, b, c, value),
+        3 => step_right(types, inputs, i, row_of(3), a, b, c, value),
+        4 => step_right(types, inputs, i, row_of(4), a, b, c, value),
+        5 => step_right(types, inputs, i, row_of(5), a, b, c, value),
+        6 => step_right(types, inputs, i, row_of(6), a, b, c, value),
+        _ => step_right(types, inputs, i, row_of(7), a, b, c, value),
     }
 }
 
@@ -118,7 +120,7 @@ fn static_right(
 fn dynamic_right(
     types: u16,
     inputs: u16,
-    node: NodeNumber,
+    i: NodeNumber,
     kind: u8,
     a: u16,
     b: u16,
@@ -126,14 +128,14 @@ fn dynamic_right(
     value: i32,
 ) -> bool
     requires { ⌜ (8 ≤ kind) × (kind < 13) ⌝ }
-    ensures { λ r. ⌜ r ≡ nodeFits types inputs (λ j. nodeOf kind a b c value) (node .0) ⌝ }
+    ensures { λ r. ⌜ r ≡ nodeFits types inputs (λ j. node kind a b c value) (i .0) ⌝ }
 {
     match kind {
-        8 => step_right(types, inputs, node, row_of(8), a, b, c, value),
-        9 => step_right(types, inputs, node, row_of(9), a, b, c, value),
-        10 => step_right(types, inputs, node, row_of(10), a, b, c, value),
-        11 => step_right(types, inputs, node, row_of(11), a, b, c, value),
-        _ => step_right(types, inputs, node, row_of(12), a, b, c, value),
+        8 => step_right(types, inputs, i, row_of(8), a, b, c, value),
+        9 => step_right(types, inputs, i, row_of(9), a, b, c, value),
+        10 => step_right(types, inputs, i, row_of(10), a, b, c, value),
+        11 => step_right(types, inputs, i, row_of(11), a, b, c, value),
+        _ => step_right(types, inputs, i, row_of(12), a, b, c, value),
     }
 }
 
@@ -141,20 +143,20 @@ fn dynamic_right(
 fn node_right(
     types: u16,
     inputs: u16,
-    node: NodeNumber,
+    i: NodeNumber,
     kind: u8,
     a: u16,
     b: u16,
     c: u16,
     value: i32,
 ) -> bool
-    ensures { λ r. ⌜ r ≡ nodeFits types inputs (λ j. nodeOf kind a b c value) (node .0) ⌝ }
+    ensures { λ r. ⌜ r ≡ nodeFits types inputs (λ j. node kind a b c value) (i .0) ⌝ }
 {
     match kind {
-        0 => fields_right(types, inputs, node, row_of(0), a, b, c),
-        1 => step_right(types, inputs, node, row_of(1), a, b, c, value),
-        2..=7 => static_right(types, inputs, node, kind, a, b, c, value),
-        8..=12 => dynamic_right(types, inputs, node, kind, a, b, c, value),
+        0 => fields_right(types, inputs, i, row_of(0), a, b, c),
+        1 => step_right(types, inputs, i, row_of(1), a, b, c, value),
+        2..=7 => static_right(types, inputs, i, kind, a, b, c, value),
+        8..=12 => dynamic_right(types, inputs, i, kind, a, b, c, value),
         _ => false,
     }
 }

@@ -13,9 +13,9 @@ ghost use lib.Dec.{leb};
 ghost use lib.ListN.{length};
 ghost use Rattle.lambdamix.specs.Limits.{maxNodes};
 ghost use Rattle.script.specs.Refusals.{scriptRefusal};
-ghost use Rattle.script.specs.Tables.{tablesScript, tablesRefusal};
+ghost use Rattle.script.specs.Tables.{tablesScript, tablesRefusal, tablesOf};
 ghost use Rattle.script.specs.Replies.{refusalOf};
-ghost use Rattle.script.specs.Columns.{tablesOf, enough};
+ghost use Rattle.script.specs.Columns.{enough};
 ghost use Rattle.tables.specs.PackedTables.{HoldNodes, PackedTables};
 
 // Whether two columns, by their lengths, hold n records.

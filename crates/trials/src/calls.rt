@@ -5,6 +5,7 @@ use crate::print;
 use crate::task::Task;
 use crate::task::try_file;
 use file::bytes;
+use respond::limits::MAX_BYTES;
 use script::Counts;
 use script::column;
 use script::limits::MAX_INPUTS;
@@ -18,17 +19,11 @@ const HEAP: usize = (MAX_FUEL as usize) + MAX_INPUTS;
 
 const CODES: usize = 2 * (MAX_FUEL as usize) + MAX_INPUTS;
 
-fn word32(record: &[u8], at: u16) -> u32 {
-    let low = bytes::word16(record, at as usize) as u32;
-    let high = bytes::word16(record, (at as usize) + 2) as u32;
-    low + 65536 * high
-}
-
 // A length that is lent of a place for `most`.
 fn lent(record: &[u8], at: u16, most: usize) -> usize
     ensures { λ r. ⌜ r ≤ most ⌝ }
 {
-    let n = word32(record, at) as usize;
+    let n = bytes::word32(record, at as usize) as usize;
     if most < n {
         return most;
     }
@@ -110,7 +105,7 @@ fn try_split(
                 task_of(record),
                 &record[at..end],
                 &settings[first..given],
-                word32(record, 1),
+                bytes::word32(record, 1),
                 heap,
                 codes,
                 out,
@@ -125,13 +120,13 @@ pub(crate) fn try_call(k: usize, record: &[u8]) {
     let mut settings = [0i32; 255];
     let mut heap = [0u64; HEAP];
     let mut codes = [0u64; CODES];
-    let mut space = [0u8; 65536];
+    let mut space = [0u8; MAX_BYTES];
     let count = column::at8(record, 17);
     read_settings(record, count as u16, &mut settings);
     let first = 0;
     let store = lent(record, 5, HEAP);
     let code = lent(record, 9, CODES);
-    let room = lent(record, 13, 65536);
+    let room = lent(record, 13, MAX_BYTES);
     try_split(
         k,
         record,

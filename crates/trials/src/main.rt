@@ -14,13 +14,6 @@ enum Kind {
     Inputs,
 }
 
-// The number of the four bytes of a length, the low byte first.
-fn length_of(head: &[u8]) -> usize {
-    let low = file::bytes::word16(head, 0) as usize;
-    let high = file::bytes::word16(head, 2) as usize;
-    low + 65536 * high
-}
-
 fn try_record(kind: Kind, k: usize, record: &[u8]) {
     match kind {
         Kind::Scripts => scripts::try_script(k, record),
@@ -51,7 +44,7 @@ fn next(kind: Kind, file: i32, k: usize) -> bool {
     if io::read_full(file, &mut head) < 4 {
         return false;
     }
-    let n = length_of(&head);
+    let n = file::bytes::word32(&head, 0) as usize;
     let mut space = io::large_buffer();
     try_next(kind, file, k, n, &mut space)
 }

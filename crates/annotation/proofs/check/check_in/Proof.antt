@@ -8,7 +8,7 @@ use Rattle.annotation.proofs.check.check_in.Tie as tie
 
 returns : tie.Need-returns
 unfolding checkRefusal
-returns c = told-first (c .before .before .before .before .before .tables-packed .ensures .0) _ (c .before .f .given .1)
+returns c = told-first (c .before .before .before .before .before .tables-packed .ensures .0) _ (c .before .f .given .1) (search needs)
 
 returns-2 : tie.Need-returns-2
 unfolding checkRefusal rowNode

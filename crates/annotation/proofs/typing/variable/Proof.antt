@@ -16,14 +16,14 @@ module _ (binders : List ℕ) (x i d : ℕ) where
   last-first :
       0 < d →
       bound binders x i d
-      ≡ pick (eqb (highHalf (getD binders (d - 1) 0)) x) (typeAnswer (lowHalf (getD binders (d - 1) 0))) (bound binders x i (d - 1))
+      ≡ pick (eqb (lowHalf (getD binders (d - 1) 0)) x) (typeAnswer (highHalf (getD binders (d - 1) 0))) (bound binders x i (d - 1))
   unfolding bound
   last-first h = let e : suc (d - 1) ≡ d = omega arith in let f : suc (d - 1) - 1 ≡ d - 1 = omega arith in rw (← e, f)
 
-  found-here : 0 < d → highHalf (getD binders (d - 1) 0) ≡ x → bound binders x i d ≡ typeAnswer (lowHalf (getD binders (d - 1) 0))
+  found-here : 0 < d → lowHalf (getD binders (d - 1) 0) ≡ x → bound binders x i d ≡ typeAnswer (highHalf (getD binders (d - 1) 0))
   found-here h e = last-first h ∙ rw (eq-eqb _ _ e)
 
-  not-here : 0 < d → (highHalf (getD binders (d - 1) 0) ≡ x → ⊥) → bound binders x i d ≡ bound binders x i (d - 1)
+  not-here : 0 < d → (lowHalf (getD binders (d - 1) 0) ≡ x → ⊥) → bound binders x i d ≡ bound binders x i (d - 1)
   not-here h e = last-first h ∙ rw (ne-eqb _ _ e)
 
 abbrev Inv-loop : tie.InvT-loop
@@ -39,10 +39,10 @@ loop-holds : tie.Need-loop-holds Inv-loop μ-loop
 loop-holds c = (omega arith, refl)
 
 returns-2 : tie.Need-returns-2 Inv-loop μ-loop
-returns-2 c = λ few. c .typed .ensures ∙ rw (c .before .low .ensures) (sym (c .before .before .before .before .before .before .before .loop .inv .1 ∙ found-here _ _ _ _ (c .before .before .before .before .before .before .loop-test .taken) (sym (c .before .before .before .before .high .ensures) ∙ c .before .before .if2 .taken)))
+returns-2 c = λ few. c .typed .ensures ∙ rw (c .before .high .ensures) (sym (c .before .before .before .before .before .before .before .loop .inv .1 ∙ found-here _ _ _ _ (c .before .before .before .before .before .before .loop-test .taken) (sym (c .before .before .before .before .low .ensures) ∙ c .before .before .if2 .taken)))
 
 loop-again : tie.Need-loop-again Inv-loop μ-loop
-loop-again c = (omega arith, c .before .before .before .before .before .loop .inv .1 ∙ not-here _ _ _ _ (c .before .before .before .before .loop-test .taken) (λ e. c .if2 .left (c .before .before .high .ensures ∙ e)))
+loop-again c = (omega arith, c .before .before .before .before .before .loop .inv .1 ∙ not-here _ _ _ _ (c .before .before .before .before .loop-test .taken) (λ e. c .if2 .left (c .before .before .low .ensures ∙ e)))
 
 returns-3 : tie.Need-returns-3 Inv-loop μ-loop
 unfolding bound

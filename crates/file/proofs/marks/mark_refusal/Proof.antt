@@ -8,13 +8,13 @@ use Rattle.file.proofs.marks.mark_refusal.Tie as tie
 
 returns : tie.Need-returns
 unfolding markRefusal
-returns c = told-first (type-marks _ _ _ (c .before .before .before .before .type-offset .ensures) (c .before .before .before .unmarked .ensures)) _ (c .before .f .given .1)
+returns c = told-first (type-marks _ _ _ (c .before .before .before .before .type-offset .ensures) (c .before .before .before .unmarked .ensures)) _ (c .before .f .given .1) (search needs)
 
 returns-2 : tie.Need-returns-2
 unfolding markRefusal
 returns-2 c =
     told-then (type-marks _ _ _ (c .before .before .before .before .before .before .before .before .type-offset .ensures) (c .before .before .before .before .before .before .before .unmarked .ensures)) (c .before .before .before .before .before .enum-told .given .1)
-    (told-first (input-marks _ _ _ _ (c .before .before .before .before .input-offset .ensures) (c .before .before .before .unmarked2 .ensures)) _ (c .before .f2 .given .1))
+    (told-first (input-marks _ _ _ _ (c .before .before .before .before .input-offset .ensures) (c .before .before .before .unmarked2 .ensures)) _ (c .before .f2 .given .1) (search needs))
 
 returns-3 : tie.Need-returns-3
 unfolding markRefusal

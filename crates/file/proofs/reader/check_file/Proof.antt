@@ -1,7 +1,7 @@
 -- `file::reader::check_file` meets its contract: the head, then the body. Assumes nothing.
 use borrow.Author.Needs.{needs}
+use Rattle.script.specs.Refusals.{fileRefusal}
 use Rattle.script.proofs.Verdicts.{told-none, told-first, told-then}
-use Rattle.file.proofs.HeadLaws.{file-by-head}
 use Rattle.file.proofs.ReaderLaws.{head-passes}
 use Rattle.file.proofs.reader.check_file.Statement.{statement}
 use Rattle.file.proofs.reader.check_file.Tie as tie
@@ -10,10 +10,12 @@ body-refusal-requires : tie.Need-body-refusal-requires
 body-refusal-requires c κs = head-passes _ (told-none (c .before .before .head-refusal .ensures) (c .enum-told .given .1))
 
 returns : tie.Need-returns
-returns c = rw file-by-head (told-first (c .before .before .before .head-refusal .ensures) _ (c .before .f .given .1))
+unfolding fileRefusal
+returns c = told-first (c .before .before .before .head-refusal .ensures) _ (c .before .f .given .1) (search needs)
 
 returns-2 : tie.Need-returns-2
-returns-2 c = rw file-by-head (told-then (c .before .before .before .head-refusal .ensures) (c .before .enum-told .given .1) (c .body-refusal .ensures))
+unfolding fileRefusal
+returns-2 c = told-then (c .before .before .before .head-refusal .ensures) (c .before .enum-told .given .1) (c .body-refusal .ensures)
 
 pub check-file-spec : {M : Type 1} → statement M
 check-file-spec =

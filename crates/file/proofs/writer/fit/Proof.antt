@@ -1,16 +1,20 @@
 -- `file::writer::fit` meets its contract: the size is the file's length. Assumes nothing.
 use borrow.Author.Needs.{needs}
-use mathlib.Core.Path.{sym, _∙_}
+use mathlib.Core.Path.{refl, sym, _∙_}
 use native.Mathlib.Omega.{arith}
-use Rattle.file.proofs.WriterLaws.{tables-length, fitted, too-short}
+use Rattle.script.proofs.Texts.{text-fits, text-short}
+use Rattle.file.proofs.WritingLaws.{put-over}
+use Rattle.file.proofs.WriterLaws.{tables-length}
 use Rattle.file.proofs.writer.fit.Statement.{statement}
 use Rattle.file.proofs.writer.fit.Tie as tie
 
 returns : tie.Need-returns
-returns c = fitted _ (c .before .before .before .before .before .file-size .ensures ∙ sym (tables-length _ _ _ _)) (omega (arith, c .before .before .before .before .if1 .taken)) (c .before .before .emit .ensures)
+returns c =
+    let size = c .before .before .before .before .before .file-size .ensures ∙ sym (tables-length _ _ _ _) in
+    text-fits size (omega (arith, c .before .before .before .before .if1 .taken)) (put-over (c .before .before .emit .ensures) (omega (arith, size, c .before .before .before .before .if1 .taken)))
 
 returns-2 : tie.Need-returns-2
-returns-2 c = too-short _ (c .before .file-size .ensures ∙ sym (tables-length _ _ _ _)) (omega (arith, c .if1 .left))
+returns-2 c = text-short (c .before .file-size .ensures ∙ sym (tables-length _ _ _ _)) (omega (arith, c .if1 .left)) refl
 
 emit-requires : tie.Need-emit-requires
 emit-requires c κs = omega (arith, c .before .before .file-size .ensures, c .before .if1 .taken)

@@ -2,7 +2,7 @@
 use borrow.Author.Needs.{needs}
 use Prim.Native.Nat.{_-_}
 use native.Mathlib.Omega.{arith}
-use Rattle.script.specs.File.{inputBytes}
+use Rattle.script.specs.File.{inputBytes, inputOffset}
 use Rattle.script.specs.Columns.{inputsIn}
 use Rattle.file.proofs.Layouts.{inputLayout}
 use Rattle.file.proofs.WritingLaws.{Progress, put-same, progress-none, progress-more, progress-all}
@@ -15,6 +15,10 @@ Inv-loop out₀ inputs first count j₀ out j = Progress inputLayout (inputsIn i
 abbrev μ-loop : tie.MeasureT-loop
 μ-loop out₀ inputs first count j₀ out j = count - j
 
+loop-holds : tie.Need-loop-holds Inv-loop μ-loop
+unfolding inputOffset
+loop-holds c = progress-none (omega arith) (omega (arith, c .before .input-offset .ensures))
+
 loop-again : tie.Need-loop-again Inv-loop μ-loop
 loop-again c = progress-more (c .before .before .before .before .before .before .loop .inv) (c .before .before .before .before .before .loop-test .taken) (put-same (λ x. inputBytes (c .before .before .before .before .at16 .ensures x)) (c .before .before .input-at .ensures))
 
@@ -24,11 +28,10 @@ inputs-at-spec =
     (tie.spec
     Inv-loop
     μ-loop
+    (λ c κs. tt)
     (λ c. search needs)
     (λ c. search needs)
-    (λ c. search needs)
-    (λ c. search needs)
-    (λ c. progress-none (omega arith) (omega arith))
+    loop-holds
     (λ c κs. search needs)
     (λ c. search needs)
     (λ c. search needs)
@@ -37,4 +40,4 @@ inputs-at-spec =
     (λ c. search needs)
     loop-again
     (λ c. search needs)
-    (λ c. progress-all (c .before .loop .inv) (c .loop-test .left)))
+    (λ c. progress-all (c .before .loop .inv) (c .loop-test .left) (c .before .before .before .input-offset .ensures)))

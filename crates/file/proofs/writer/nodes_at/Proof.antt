@@ -18,9 +18,13 @@ Inv-loop out₀ kinds a b c values first count j₀ out j = Progress nodeLayout 
 abbrev μ-loop : tie.MeasureT-loop
 μ-loop out₀ kinds a b c values first count j₀ out j = count - j
 
+loop-holds : tie.Need-loop-holds Inv-loop μ-loop
+unfolding nodeOffset
+loop-holds c = progress-none (omega arith) (omega (arith, c .before .node-offset .ensures))
+
 loop-again : tie.Need-loop-again Inv-loop μ-loop
 unfolding fileLength nodeOffset
-loop-again c = progress-more (c .before .before .before .before .before .before .before .before .before .before .loop .inv) (c .before .before .before .before .before .before .before .before .before .loop-test .taken) (put-same (λ x. nodeBytes (record { kind = c .before .before .before .before .before .before .before .before .at8 .ensures x; a = c .before .before .before .before .before .before .before .at16 .ensures x; b = c .before .before .before .before .before .before .at162 .ensures x; c = c .before .before .before .before .before .at163 .ensures x; value = (toZ-ofZ {w = w32} (record { sfits = c .before .before .before .before .at32 .ok }) ∙ c .before .before .before .before .at32 .ensures) x })) (put-there (node-sized _) (omega (arith, c .before .before .before .before .before .before .before .before .before .before .before .before .before .before .before .before .before .before .before .pre, c .before .before .before .before .before .before .before .before .before .before .loop .inv .kept, c .before .before .before .before .before .before .before .before .before .loop-test .taken)) (c .before .before .node-at .ensures)))
+loop-again c = progress-more (c .before .before .before .before .before .before .before .before .before .before .loop .inv) (c .before .before .before .before .before .before .before .before .before .loop-test .taken) (put-same (λ x. nodeBytes (record { kind = c .before .before .before .before .before .before .before .before .at8 .ensures x; a = c .before .before .before .before .before .before .before .at16 .ensures x; b = c .before .before .before .before .before .before .at162 .ensures x; c = c .before .before .before .before .before .at163 .ensures x; value = (toZ-ofZ {w = w32} (record { sfits = c .before .before .before .before .at32 .ok }) ∙ c .before .before .before .before .at32 .ensures) x })) (put-there (node-sized _) (omega (arith, c .before .before .before .before .before .before .before .before .before .before .before .before .before .before .before .before .before .before .pre, c .before .before .before .before .before .before .before .before .before .before .before .before .node-offset .ensures, c .before .before .before .before .before .before .before .before .before .before .loop .inv .kept, c .before .before .before .before .before .before .before .before .before .loop-test .taken)) (c .before .before .node-at .ensures)))
 
 pub nodes-at-spec : {M : Type 1} → statement M
 nodes-at-spec =
@@ -28,14 +32,10 @@ nodes-at-spec =
     (tie.spec
     Inv-loop
     μ-loop
+    (λ c κs. tt)
     (λ c. search needs)
     (λ c. search needs)
-    (λ c. search needs)
-    (λ c. search needs)
-    (λ c. search needs)
-    (λ c. search needs)
-    (λ c. search needs)
-    (λ c. progress-none (omega arith) (omega arith))
+    loop-holds
     (λ c κs. search needs)
     (λ c κs. search needs)
     (λ c κs. search needs)
@@ -49,4 +49,4 @@ nodes-at-spec =
     (λ c. search needs)
     loop-again
     (λ c. search needs)
-    (λ c. progress-all (c .before .loop .inv) (c .loop-test .left)))
+    (λ c. progress-all (c .before .loop .inv) (c .loop-test .left) (c .before .before .before .node-offset .ensures)))

@@ -2,8 +2,7 @@
 use borrow.Author.Needs.{needs}
 use Prim.Native.Nat.{_-_}
 use native.Mathlib.Omega.{arith}
-use lib.Dec.{lit<}
-use Rattle.script.specs.File.{typeBytes}
+use Rattle.script.specs.File.{typeBytes, typeOffset}
 use Rattle.script.specs.Columns.{typesIn}
 use Rattle.file.proofs.Layouts.{typeLayout}
 use Rattle.file.proofs.WritingLaws.{Progress, put-same, progress-none, progress-more, progress-all}
@@ -11,10 +10,14 @@ use Rattle.file.proofs.writer.types_at.Statement.{statement}
 use Rattle.file.proofs.writer.types_at.Tie as tie
 
 abbrev Inv-loop : tie.InvT-loop
-Inv-loop out₀ parameters results count j₀ out j = Progress typeLayout (typesIn parameters results) 8 count out₀ out j
+Inv-loop out₀ parameters results first count j₀ out j = Progress typeLayout (typesIn parameters results) first count out₀ out j
 
 abbrev μ-loop : tie.MeasureT-loop
-μ-loop out₀ parameters results count j₀ out j = count - j
+μ-loop out₀ parameters results first count j₀ out j = count - j
+
+loop-holds : tie.Need-loop-holds Inv-loop μ-loop
+unfolding typeOffset
+loop-holds c = progress-none (omega arith) (omega (arith, c .before .type-offset .ensures))
 
 loop-again : tie.Need-loop-again Inv-loop μ-loop
 loop-again c = progress-more (c .before .before .before .before .before .before .before .loop .inv) (c .before .before .before .before .before .before .loop-test .taken) (put-same (λ x. typeBytes (record { parameter = c .before .before .before .before .before .at16 .ensures x; result = c .before .before .before .before .at162 .ensures x })) (c .before .before .type-at .ensures))
@@ -25,8 +28,10 @@ types-at-spec =
     (tie.spec
     Inv-loop
     μ-loop
+    (λ c κs. tt)
     (λ c. search needs)
-    (λ c. progress-none (omega arith) (lit< tt))
+    (λ c. search needs)
+    loop-holds
     (λ c κs. search needs)
     (λ c κs. search needs)
     (λ c. search needs)
@@ -36,4 +41,4 @@ types-at-spec =
     (λ c. search needs)
     loop-again
     (λ c. search needs)
-    (λ c. progress-all (c .before .loop .inv) (c .loop-test .left)))
+    (λ c. progress-all (c .before .loop .inv) (c .loop-test .left) (c .before .before .before .type-offset .ensures)))

@@ -1,14 +1,18 @@
 -- `file::writer::write` meets its contract: by the verdict on the tables. Assumes nothing.
 use borrow.Author.Needs.{needs}
-use Rattle.file.proofs.WriterLaws.{writes-passed, writes-refused}
+use mathlib.Core.Path.{refl}
+use Rattle.script.specs.Tables.{writeRefusal}
+use Rattle.script.proofs.Texts.{writes-passed, writes-refused}
 use Rattle.file.proofs.writer.write.Statement.{statement}
 use Rattle.file.proofs.writer.write.Tie as tie
 
 returns : tie.Need-returns
+unfolding writeRefusal
 returns c = writes-passed (c .before .before .before .before .before .before .tables-refusal .ensures) (c .before .before .before .before .enum-told .given .1) (c .before .before .fit .ensures)
 
 returns-2 : tie.Need-returns-2
-returns-2 c = writes-refused (c .before .before .before .tables-refusal .ensures) _ (c .before .f .given .1)
+unfolding writeRefusal
+returns-2 c = writes-refused (c .before .before .before .tables-refusal .ensures) (c .before .f .given .1) refl
 
 pub write-spec : {M : Type 1} → statement M
 write-spec =

@@ -3,6 +3,7 @@ use mathlib.Core.Path.{refl, sym}
 use native.Mathlib.Nat.{le-refl}
 use native.Mathlib.Omega.{arith}
 use Rattle.lambdamix.specs.Limits.{maxTypes, maxInputs, maxNodes}
+use Rattle.script.specs.Columns.{enough}
 use Rattle.script.specs.Bytes.{byteAt}
 use Rattle.script.specs.Tables.{longEnough}
 use Rattle.respond.proofs.Splitting.{from-start, end-within}
@@ -11,7 +12,7 @@ use Rattle.respond.proofs.answer.answer.Statement.{statement}
 use Rattle.respond.proofs.answer.answer.Tie as tie
 
 returns : tie.Need-returns
-unfolding byteAt longEnough maxTypes maxInputs maxNodes
+unfolding byteAt longEnough enough maxTypes maxInputs maxNodes
 returns c =
     input-answered _ refl (c .before .before .before .before .before .before .before .before .before .before .before .before .before .before .before .before .before .before .before .before .before .before .before .before .before .before .before .before .before .before .before .script-end .ensures) (c .before .before .before .before .before .before .before .before .before .before .before .before .before .before .before .before .before .before .before .before .before .read .ensures) refl (record { below = λ i. omega (arith, c .before .before .before .before .before .before .before .before .before .before .before .before .before .before .before .before .before .before .before .before .before .before .before .before .before .before .before .before .before .before .before .before .before .shared-slice-known .given i) }) (c .before .before .answer-script .ensures)
 

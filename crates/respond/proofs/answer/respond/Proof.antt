@@ -1,6 +1,6 @@
 -- `respond::answer::respond` meets its contract: the output is long enough, or nothing is written. Assumes nothing.
 use native.Mathlib.Omega.{arith}
-use Rattle.respond.specs.Response.{maxBytes}
+use Rattle.lambdamix.specs.Limits.{maxBytes}
 use Rattle.respond.proofs.Responding.{call-answered, call-short}
 use borrow.Author.Needs.{needs}
 use Rattle.respond.proofs.answer.respond.Statement.{statement}

@@ -3,19 +3,19 @@ use mathlib.Core.Bool.{true, false}
 use native.Mathlib.Omega.{arith}
 use borrow.Author.Tests.{lt-ltb, le-ltb}
 use Rattle.lambdamix.specs.Text.{ascii}
-use Rattle.respond.specs.Stages.{opening}
+use Rattle.respond.specs.Response.{unmadeText}
 use Rattle.respond.proofs.Lines.{prints-unmade}
 use borrow.Author.Needs.{needs}
 use Rattle.respond.proofs.print.print_unmade.Statement.{statement}
 use Rattle.respond.proofs.print.print_unmade.Tie as tie
 
 returns : tie.Need-returns
-unfolding opening ascii
+unfolding unmadeText ascii
 returns c =
     rw (lt-ltb (c .before .before .before .before .before .before .before .before .args .number) 20 (omega (arith, c .before .before .before .before .before .before .if1 .taken))) (prints-unmade true _ _ (omega (arith, c .before .before .before .before .before .before .before .before .fits .number)) (omega (arith, c .before .before .before .before .before .before .before .before .fits .place)) (c .before .before .print-pair .ensures))
 
 returns-2 : tie.Need-returns-2
-unfolding opening ascii
+unfolding unmadeText ascii
 returns-2 c =
     rw (le-ltb (c .before .before .before .before .before .before .before .before .args .number) 20 (omega (arith, c .before .before .before .before .before .before .if1 .left))) (prints-unmade false _ _ (omega (arith, c .before .before .before .before .before .before .before .before .fits .number)) (omega (arith, c .before .before .before .before .before .before .before .before .fits .place)) (c .before .before .print-pair2 .ensures))
 

@@ -1,7 +1,7 @@
 -- `respond::stage::answer_script` meets its contract: by the reader's answer and the maker's reply. Assumes nothing.
 use mathlib.Core.Path.{refl, sym}
 use native.Mathlib.Omega.{arith}
-use Rattle.respond.specs.Response.{maxBytes}
+use Rattle.lambdamix.specs.Limits.{maxBytes}
 use Rattle.respond.proofs.Answering.{answered-unmade, answered-made}
 use Rattle.respond.proofs.Responding.{answered-read, answered-refused}
 use Rattle.respond.proofs.stage.answer_script.Statement.{statement}

@@ -2,6 +2,7 @@
 use mathlib.Core.Path.{refl, sym}
 use native.Mathlib.Omega.{arith}
 use Rattle.lambdamix.specs.Limits.{maxTypes, maxInputs, maxNodes}
+use Rattle.script.specs.Columns.{enough}
 use Rattle.script.specs.Bytes.{byteAt}
 use Rattle.script.specs.Tables.{longEnough}
 use Rattle.respond.proofs.Holding.{file-listed}
@@ -9,7 +10,7 @@ use Rattle.respond.proofs.stage.list_file.Statement.{statement}
 use Rattle.respond.proofs.stage.list_file.Tie as tie
 
 returns : tie.Need-returns
-unfolding byteAt longEnough maxTypes maxInputs maxNodes
+unfolding byteAt longEnough enough maxTypes maxInputs maxNodes
 returns c =
     file-listed refl (c .before .before .before .before .before .before .before .before .before .before .before .before .before .before .before .before .before .before .before .before .read .ensures) (record { below = λ i. omega (arith, c .before .before .before .before .before .before .before .before .before .before .before .before .before .before .before .before .before .before .before .before .before .before .before .before .before .before .before .before .before .before .shared-slice-known .given i) }) (c .before .before .list-at .ensures)
 

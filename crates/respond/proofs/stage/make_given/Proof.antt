@@ -1,9 +1,9 @@
 -- `respond::stage::make_given` meets its contract: its stores suffice. Assumes nothing.
 use mathlib.Core.Path.{refl}
 use native.Mathlib.Omega.{arith}
-use Rattle.lambdamix.specs.Limits.{maxInputs}
+use Rattle.lambdamix.specs.Limits.{maxInputs, programFuel}
 use Rattle.specializer.specs.Making.{suffices, storesSuffice}
-use Rattle.respond.specs.Response.{programFuel, programSettings}
+use Rattle.respond.specs.Response.{programSettings}
 use Rattle.respond.proofs.Splitting.{given-most, makes-given}
 use borrow.Author.Needs.{needs}
 use Rattle.respond.proofs.stage.make_given.Statement.{statement}

@@ -1,7 +1,7 @@
 -- `specializer::before::call_refused` meets its contract: the first of two refusals is told. Assumes nothing.
 use mathlib.Core.Path.{refl}
 use Rattle.script.specs.Tables.{rowInput, tablesScript}
-use Rattle.annotation.proofs.Joining.{refused-first, passed-first}
+use Rattle.script.proofs.Verdicts.{told-first, told-then}
 use Rattle.specializer.specs.Entry.{laterRefusal}
 use borrow.Author.Needs.{needs}
 use Rattle.specializer.proofs.before.call_refused.Statement.{statement}
@@ -9,13 +9,13 @@ use Rattle.specializer.proofs.before.call_refused.Tie as tie
 
 returns : tie.Need-returns
 unfolding laterRefusal
-returns c = λ ks xs ys zs vs ok p ss l. refused-first _ (c .before .before .before .annotation-by .ensures ks xs ys zs vs ok p) (c .before .f .given .1)
+returns c = λ ks xs ys zs vs ok p ss l. told-first (c .before .before .before .annotation-by .ensures ks xs ys zs vs ok p) _ (c .before .f .given .1) (search needs)
 
 returns-2 : tie.Need-returns-2
 unfolding laterRefusal tablesScript rowInput
 returns-2 c =
-    λ ks xs ys zs vs ok p ss l. passed-first _ _ (c .before .before .before .annotation-by .ensures ks xs ys zs vs ok p) (c .before .enum-told .given .1)
-    (λ e. c .call-or-stores-refusal .ensures _ ss refl l)
+    λ ks xs ys zs vs ok p ss l. told-then (c .before .before .before .annotation-by .ensures ks xs ys zs vs ok p) (c .before .enum-told .given .1)
+    (c .call-or-stores-refusal .ensures _ ss refl l)
 
 pub call-refused-spec : {M : Type 1} → statement M
 call-refused-spec =

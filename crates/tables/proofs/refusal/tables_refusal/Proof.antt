@@ -8,7 +8,7 @@ use Rattle.tables.proofs.refusal.tables_refusal.Statement.{statement}
 use Rattle.tables.proofs.refusal.tables_refusal.Tie as tie
 
 packed-refusal-requires : tie.Need-packed-refusal-requires
-packed-refusal-requires c κs = omega (arith, c .before .if1 .taken, length-replicate {A = ℕ} 128 0)
+packed-refusal-requires c κs = simp length-replicate (omega (arith, c .before .if1 .taken))
 
 packed-refusal-requires-2 : tie.Need-packed-refusal-requires-2
 unfolding maxNodes

@@ -9,6 +9,7 @@ use Rattle.tables.proofs.UseCounts.{counted-once}
 use Rattle.tables.proofs.structure.first_misused.Statement.{statement}
 use Rattle.tables.proofs.structure.first_misused.Tie as tie
 
+-- 128 is FEW_NODES
 returns : tie.Need-returns
 unfolding usedOnceAt
 returns c =

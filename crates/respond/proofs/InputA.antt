@@ -1,0 +1,17 @@
+-- The starred trial that paper 01 gives whole, "With 40 it prints, whole: ..": every byte that the program prints for input A with 40,
+-- by computation. Assumes nothing.
+use mathlib.Core.Path.{_≡_, refl}
+use mathlib.Core.List.{_++_}
+use lib.IntN.{pos}
+use Rattle.lambdamix.specs.Text.{ascii}
+use Rattle.lambdamix.specs.Trials.{inputA}
+use Rattle.lambdamix.proofs.Computing.{computing}
+use Rattle.script.specs.Bytes.{bits32, bytes32}
+use Rattle.script.specs.File.{fileBytes}
+use Rattle.file.proofs.FileTrials.{reading}
+use Rattle.respond.specs.Response.{headRight, scriptLengthBy, scriptLength, scriptPart, settingsPart, settingMarked, wholeSettings, settingAt, settings, settingsReply, inputReply, replyTo, pairText, unmadeText, countsText, replyText, response}
+
+pub input-a-printed :
+    response (fileBytes inputA ++ (ascii "SV" ++ bytes32 (bits32 (pos 40)))) ≡ ascii "accepted\nsteps 6\nnodes 4\n(< i1 4000)\n"
+unfolding computing reading headRight scriptLengthBy scriptLength scriptPart settingsPart settingMarked wholeSettings settingAt settings settingsReply inputReply replyTo pairText unmadeText countsText replyText response
+input-a-printed = refl
