@@ -153,16 +153,16 @@ module _ (s : Script) (fit : Encodable s) where
 -- ---- what was read is written
 
 -- what no refusal says of the bytes: their marks and their length are right
-record Sound (bs : List ℕ) : Type 0 where
+record RightBytes (bs : List ℕ) : Type 0 where
   head : headMarked bs 0 ≡ true
   size : length bs ≡ fileLength (headTypes bs) (headInputs bs) (headNodes bs)
   types : wrongMark typeLayout bs 8 (headTypes bs) ≡ none
   inputs : wrongMark inputLayout bs (8 + 6 * headTypes bs) (headInputs bs) ≡ none
   nodes : wrongMark nodeLayout bs (8 + 6 * headTypes bs + 4 * headInputs bs) (headNodes bs) ≡ none
 
-sound : (bs : List ℕ) → fileRefusal bs ≡ none → Sound bs
+right-bytes : (bs : List ℕ) → fileRefusal bs ≡ none → RightBytes bs
 unfolding fileRefusal headRefusal bodyRefusal markRefusal typeOffset inputOffset nodeOffset
-sound bs e =
+right-bytes bs e =
     let (h, b) = neither _ _ e in
     let after-length = neither _ _ (neither _ _ h .1) in
     let after-counts = neither _ _ (after-length .1) .1 in
@@ -182,7 +182,7 @@ pub script-counts :
 unfolding scriptIn
 script-counts bs = (length-numbered _ 0 (headTypes bs), length-numbered _ 0 (headInputs bs), length-numbered _ 0 (headNodes bs))
 
-module _ (bs : List ℕ) (all : AllBytes bs) (right : Sound bs) where
+module _ (bs : List ℕ) (all : AllBytes bs) (right : RightBytes bs) where
   head-written : Stands bs 0 (headBytes (scriptIn bs))
   unfolding headBytes ascii bytes16 headTypes headInputs headNodes
   head-written =
@@ -224,7 +224,7 @@ read-fits bs all =
 
 -- Writing what was read, from bytes that no refusal holds of, gives the same bytes.
 pub written-read : (bs : List ℕ) → AllBytes bs → fileRefusal bs ≡ none → fileBytes (scriptIn bs) ≡ bs
-written-read bs all e = written bs all (sound bs e)
+written-read bs all e = written bs all (right-bytes bs e)
 
 -- The script of bytes that no refusal holds of is refused by nothing.
 pub script-passes : (bs : List ℕ) → AllBytes bs → fileRefusal bs ≡ none → scriptRefusal (scriptIn bs) ≡ none

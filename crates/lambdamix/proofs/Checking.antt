@@ -2,11 +2,12 @@
 -- along with it that the checker tells the lowest fault, which LowestFault.antt states. Assumes nothing.
 use Prim.Native.Nat.{ℕ, zero, suc, _≤_}
 use mathlib.Core.Path.{_≡_, refl, ap}
-use mathlib.Core.Bool.{Bool, true, false, _&&_, false≢true}
+use mathlib.Core.Bool.{Bool, true, false, false≢true}
 use mathlib.Core.List.{List, [], _∷_}
 use mathlib.Core.Option.{Option, none, some}
 use mathlib.Core.Logic.{_↔_}
 use native.Mathlib.Omega.{arith}
+use Rattle.lambdamix.specs.declared.Operator.{Operator}
 use Rattle.lambdamix.specs.Script.{Script, root}
 use Rattle.lambdamix.specs.Term.{Term, Terms, nilT, consT, arity, const, var, lifted, lam, app, fixed, cond, op, dlam, dyn, tree, nodeOf}
 use Rattle.lambdamix.specs.Types.{Ty, S, D, _⇒_, sameType, typeOf, listed}
@@ -129,13 +130,6 @@ module _ {s : Script} {Γ : Context} {e : Term} where
   same-follows : {v : Ty} (t u : Ty) → (t ≡ u → s ∣ Γ ⊢ e ∶ v) → Follows s Γ e (provided (sameType t u) v)
   same-follows t u d = provided-follows (sameType t u) (λ h. d (sameType-sound t u h))
 
-  same-twice-follows :
-      {w : Ty} (t t′ u u′ : Ty) → (t ≡ t′ → u ≡ u′ → s ∣ Γ ⊢ e ∶ w) → Follows s Γ e (provided (sameType t t′ && sameType u u′) w)
-  same-twice-follows t t′ u u′ d =
-      provided-follows (sameType t t′ && sameType u u′) λ h.
-      let k = and-both (sameType t t′) (sameType u u′) h in
-      d (sameType-sound t t′ (k .0)) (sameType-sound u u′ (k .1))
-
 module _ {s : Script} {Γ : Context} {i : ℕ} where
   var-follows : {x : ℕ} (r : Option Ty) → typeAt Γ x ≡ r → Follows s Γ (var i x) (varRule r)
   unfolding varRule
@@ -162,6 +156,22 @@ module _ {s : Script} {Γ : Context} {i : ℕ} where
   fix-follows (S ⇒ u) d = refuses
   fix-follows (D ⇒ u) d = refuses
   fix-follows ((t ⇒ u) ⇒ v) d = same-follows (t ⇒ u) v (λ h. Fix (rw (← h) at d))
+
+  if-follows :
+      {e f g : Term} {c t u : Ty} → s ∣ Γ ⊢ e ∶ c → s ∣ Γ ⊢ f ∶ t → s ∣ Γ ⊢ g ∶ u → Follows s Γ (cond i e f g) (ifRule c t u)
+  unfolding ifRule
+  if-follows {c} x y z =
+      provided-follows _ λ h.
+      let k = and-both (sameType c S) _ h in
+      If (rw (sameType-sound c S (k .0)) at x) y (rw (sameType-sound _ _ (k .1)) z)
+
+  op-follows :
+      {o : Operator} {e f : Term} {t u : Ty} → s ∣ Γ ⊢ e ∶ t → s ∣ Γ ⊢ f ∶ u → Follows s Γ (op i o e f) (opRule t u)
+  unfolding opRule
+  op-follows {t} {u} x y =
+      provided-follows _ λ h.
+      let k = and-both (sameType t S) _ h in
+      Op (rw (sameType-sound t S (k .0)) at x) (rw (sameType-sound u S (k .1)) at y)
 
 module _ {s : Script} {Γ : Context} where
   all-nil : (k : ℕ) → allDynamic k [] ≡ true → AllDynamic s Γ nilT k
@@ -196,11 +206,10 @@ mutual
       (both-right (right-answer s Γ e) (one-right (right-answer s Γ f)))
   right-answer s Γ (fixed i e) = rule-right refl fix-follows (one-right (right-answer s Γ e))
   right-answer s Γ (cond i e f g) =
-      rule-right refl
-      (λ c d. same-twice-follows (c .0) S (c .1 .0) (c .1 .1) (λ h k. If (rw h at (d .0)) (d .1 .0) (rw k (d .1 .1))))
+      rule-right refl (λ c d. if-follows (d .0) (d .1 .0) (d .1 .1))
       (both-right (right-answer s Γ e) (both-right (right-answer s Γ f) (one-right (right-answer s Γ g))))
   right-answer s Γ (op i o e f) =
-      rule-right refl (λ c d. same-twice-follows (c .0) S (c .1) S (λ h k. Op (rw h at (d .0)) (rw k at (d .1))))
+      rule-right refl (λ c d. op-follows (d .0) (d .1))
       (both-right (right-answer s Γ e) (one-right (right-answer s Γ f)))
   right-answer s Γ (dlam i x e) =
       rule-right refl (λ t d. same-follows t D (λ h. Abstr-dyn (rw h at d))) (one-right (right-answer s (bind x D Γ) e))

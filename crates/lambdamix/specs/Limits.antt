@@ -26,6 +26,6 @@ maxFuel = 16000
 unfoldable pub programFuel : ℕ
 programFuel = 4000
 
--- "no listing passes 65,536 bytes"
+-- "no listing passes 65,536 bytes"; as many the program takes of its input, lends for a made file and prints at most
 unfoldable pub maxBytes : ℕ
 maxBytes = 65536

@@ -9,7 +9,7 @@ use Rattle.lambdamix.specs.Structure.{orElse}
 use Rattle.lambdamix.specs.Listing as Text
 use Rattle.script.specs.declared.Counts.{Counts}
 use Rattle.script.specs.declared.Writing.{Writing}
-use Rattle.script.specs.Tables.{Tables, tablesScript, tablesRefusal, roomRefusal}
+use Rattle.script.specs.Tables.{Tables, tablesOf, tablesScript, tablesRefusal, roomRefusal}
 use Rattle.script.specs.Replies.{WritesText, Fitted}
 
 -- the listing of the script that tables hold
@@ -28,6 +28,6 @@ ListsTables n x before after r = WritesText (listRefusal n x before) (tablesText
 pub record Lists (n : Counts) (kinds a b c : List ℕ) (values : List ℤ) (before after : List ℕ) (r : Writing) : Type 0 where
   pub lists :
       (parameters results inputs : List ℕ) →
-      let x : Tables = record { parameters = parameters; results = results; inputs = inputs; kinds = kinds; a = a; b = b; c = c; values = values } in
+      let x : Tables = tablesOf parameters results inputs kinds a b c values in
       tablesRefusal (n .types) (n .inputs) (n .nodes) x ≡ none →
       Fitted (tablesText n x) before after r
