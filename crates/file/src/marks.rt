@@ -1,6 +1,8 @@
 // Marks of records: refusal 2.
 use crate::fill::place;
 use script::Counts;
+use script::Name;
+use script::NodeNumber;
 use script::Refusal;
 use script::Verdict;
 use script::column::at8;
@@ -55,10 +57,17 @@ pub(crate) fn mark_refusal(file: &[u8], n: Counts) -> Verdict
     match unmarked(file, type_offset(0), 6, n.types, b'T', b'Y') {
         Verdict::Refused(f) => Verdict::Refused(f),
         Verdict::Passed => {
-            match unmarked(file, input_offset(n.types, 0), 4, n.inputs, b'I', b'N') {
+            match unmarked(
+                file,
+                input_offset(n.types, Name(0)),
+                4,
+                n.inputs,
+                b'I',
+                b'N',
+            ) {
                 Verdict::Refused(f) => Verdict::Refused(f),
                 Verdict::Passed => {
-                    let nodes_at = node_offset(n.types, n.inputs, 0);
+                    let nodes_at = node_offset(n.types, n.inputs, NodeNumber(0));
                     unmarked(file, nodes_at, 13, n.nodes, b'N', b'D')
                 }
             }

@@ -6,6 +6,8 @@ use crate::fill::fill32;
 use crate::marks::mark_refusal;
 use crate::marks::marked;
 use script::Counts;
+use script::Name;
+use script::NodeNumber;
 use script::Reading;
 use script::Refusal;
 use script::Verdict;
@@ -89,8 +91,8 @@ fn fill_tables(
     ensures { λ r. ⌜ tablesOf (now (parameters .exit)) (now (results .exit)) (now (inputs .exit)) (now (kinds .exit)) (now (a .exit)) (now (b .exit)) (now (c .exit)) (now (values .exit)) ≡ filled (scriptBy n (now (file .entry))) (tablesOf (now (parameters .entry)) (now (results .entry)) (now (inputs .entry)) (now (kinds .entry)) (now (a .entry)) (now (b .entry)) (now (c .entry)) (now (values .entry))) ⌝ }
 {
     let types_at = type_offset(0);
-    let inputs_at = input_offset(n.types, 0);
-    let nodes_at = node_offset(n.types, n.inputs, 0);
+    let inputs_at = input_offset(n.types, Name(0));
+    let nodes_at = node_offset(n.types, n.inputs, NodeNumber(0));
     fill16(file, types_at, 6, 2, n.types, parameters);
     fill16(file, types_at, 6, 4, n.types, results);
     fill16(file, inputs_at, 4, 2, n.inputs, inputs);

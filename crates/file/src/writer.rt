@@ -1,5 +1,7 @@
 // The writer of script files. A part is put at a place of the output; past the end nothing is put, of a node nothing at all.
 use script::Counts;
+use script::Name;
+use script::NodeNumber;
 use script::Refusal;
 use script::TypeNumber;
 use script::Verdict;
@@ -131,7 +133,7 @@ fn types_at(out: &mut [u8], n: Counts, parameters: &[u16], results: &[u16])
 pub fn inputs_at(out: &mut [u8], n: Counts, inputs: &[u16])
     ensures { λ r. ⌜ Put (now (out .entry)) (inputOffset (n .types) 0) (records inputBytes (numbered (inputsIn (now (inputs .entry))) 0 (n .inputs))) (now (out .exit)) ⌝ }
 {
-    let first = input_offset(n.types, 0) as usize;
+    let first = input_offset(n.types, Name(0)) as usize;
     let count = n.inputs as usize;
     let mut j: usize = 0;
     while j < count {
@@ -153,7 +155,7 @@ fn nodes_at(
     requires { ⌜ fileLength (n .types) (n .inputs) (n .nodes) ≤ length (now out) ⌝ }
     ensures { λ r. ⌜ Put (now (out .entry)) (nodeOffset (n .types) (n .inputs) 0) (records nodeBytes (numbered (nodesIn (now (kinds .entry)) (now (a .entry)) (now (b .entry)) (now (c .entry)) (now (values .entry))) 0 (n .nodes))) (now (out .exit)) ⌝ }
 {
-    let first = node_offset(n.types, n.inputs, 0) as usize;
+    let first = node_offset(n.types, n.inputs, NodeNumber(0)) as usize;
     let count = n.nodes as usize;
     let mut j: usize = 0;
     while j < count {

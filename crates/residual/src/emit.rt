@@ -154,7 +154,7 @@ fn finish_file(
     }
     writer::head_at(out, 0, n);
     writer::inputs_at(out, n, inputs);
-    emit_root(codes, p, out, node_offset(0, count, 0));
+    emit_root(codes, p, out, node_offset(0, count, NodeNumber(0)));
     Finish::Written(nodes)
 }
 

@@ -1,6 +1,7 @@
 pub mod Bytes
 pub mod File
 pub mod Kinds
+pub mod KindRows
 pub mod Refusals
 pub mod Columns
 pub mod Tables

@@ -1,4 +1,5 @@
 // Columns that a caller lends: an element is read as 0 past the end, and a write past the end changes nothing.
+use crate::TypeNumber;
 ghost use mathlib.Core.Path.{_≡_};
 ghost use lib.IntN.{pos};
 ghost use lib.ListN.{getD, set};
@@ -19,6 +20,13 @@ pub fn at16(s: &[u16], i: usize) -> u16
         return s[i];
     }
     0
+}
+
+// A type's number of a column that holds such.
+pub fn type_at(s: &[u16], i: usize) -> TypeNumber
+    ensures { λ r. ⌜ r .0 ≡ getD (now (s .entry)) i 0 ⌝ }
+{
+    TypeNumber(at16(s, i))
 }
 
 pub fn at32(s: &[i32], i: usize) -> i32

@@ -1,7 +1,9 @@
 // The table of tables: per kind, the use of the fields a, b and c.
+use crate::Row;
 use lambdamix::Use;
 ghost use mathlib.Core.Path.{_≡_};
 ghost use Rattle.script.specs.Kinds.{useOf};
+ghost use Rattle.script.specs.KindRows.{rowAt};
 
 const USES: [[Use; 3]; 13] = [
     [Use::Nothing, Use::Nothing, Use::Nothing],
@@ -31,4 +33,11 @@ pub fn use_of(kind: u8, field: usize) -> Use
         return Use::Nothing;
     }
     USES[k][field]
+}
+
+// The row of a kind; nothing past the table. Read at a literal kind it costs nothing: the compiler folds it.
+pub fn row_of(kind: u8) -> Row
+    ensures { λ r. ⌜ r ≡ rowAt kind ⌝ }
+{
+    Row(use_of(kind, 0), use_of(kind, 1), use_of(kind, 2))
 }

@@ -5,12 +5,17 @@ pub mod limits;
 pub mod place;
 pub mod word;
 
+use lambdamix::Use;
+
 // A node's number, a name and a type's number have 16 bits each, and a place that wants one never takes another.
 pub struct NodeNumber(pub u16);
 
 pub struct Name(pub u16);
 
 pub struct TypeNumber(pub u16);
+
+// A row of the table of kinds: the uses of the fields a, b and c.
+pub struct Row(pub Use, pub Use, pub Use);
 
 // How many types, inputs and nodes a script has.
 pub struct Counts {

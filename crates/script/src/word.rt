@@ -1,4 +1,7 @@
 // A node in one word of 64 bits: packing and unpacking. What the code of a run is made of stands in words alike.
+use crate::Name;
+use crate::NodeNumber;
+use crate::TypeNumber;
 ghost use mathlib.Core.Path.{_≡_};
 ghost use lib.ListN.{getD};
 ghost use Rattle.script.specs.Bytes.{signed32, bits32};
@@ -56,6 +59,37 @@ pub fn field_c(w: u64) -> u16
     (w % 65536) as u16
 }
 
+// A field whose use is known: a child, a name, a parameter's type.
+pub fn child_a(w: u64) -> NodeNumber
+    ensures { λ r. ⌜ r .0 ≡ wordA w ⌝ }
+{
+    NodeNumber(field_a(w))
+}
+
+pub fn child_b(w: u64) -> NodeNumber
+    ensures { λ r. ⌜ r .0 ≡ wordB w ⌝ }
+{
+    NodeNumber(field_b(w))
+}
+
+pub fn child_c(w: u64) -> NodeNumber
+    ensures { λ r. ⌜ r .0 ≡ wordC w ⌝ }
+{
+    NodeNumber(field_c(w))
+}
+
+pub fn name_a(w: u64) -> Name
+    ensures { λ r. ⌜ r .0 ≡ wordA w ⌝ }
+{
+    Name(field_a(w))
+}
+
+pub fn type_b(w: u64) -> TypeNumber
+    ensures { λ r. ⌜ r .0 ≡ wordB w ⌝ }
+{
+    TypeNumber(field_b(w))
+}
+
 pub fn value(w: u64) -> i32
     ensures { λ r. ⌜ r ≡ wordValue w ⌝ }
 {
@@ -71,6 +105,13 @@ pub fn word_at(s: &[u64], i: u16) -> u64
         return s[k];
     }
     0
+}
+
+// The word of a node, 0 past the end.
+pub fn node_word(nodes: &[u64], i: NodeNumber) -> u64
+    ensures { λ r. ⌜ r ≡ getD (now (nodes .entry)) (i .0) 0 ⌝ }
+{
+    word_at(nodes, i.0)
 }
 
 // The word that holds a node.

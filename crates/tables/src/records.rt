@@ -1,5 +1,7 @@
 // The refusal of the first record that fails its test.
 use script::Found;
+use script::Name;
+use script::NodeNumber;
 use script::Refusal;
 use script::Verdict;
 use script::place::input_offset;
@@ -31,13 +33,13 @@ pub(crate) fn record_refusal(
     if let Found::At(j) = bad_input {
         return Verdict::Refused(Refusal {
             number: 4,
-            place: input_offset(types, j as u16) as usize,
+            place: input_offset(types, Name(j as u16)) as usize,
         });
     }
     match bad_node {
         Found::At(j) => Verdict::Refused(Refusal {
             number: 5,
-            place: node_offset(types, inputs, j as u16) as usize,
+            place: node_offset(types, inputs, NodeNumber(j as u16)) as usize,
         }),
         Found::Nowhere => Verdict::Passed,
     }

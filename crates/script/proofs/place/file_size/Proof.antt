@@ -7,7 +7,7 @@ use Rattle.script.proofs.place.file_size.Tie as tie
 
 returns : tie.Need-returns
 unfolding fileLength nodeOffset
-returns c = omega (arith, c .node-offset .ensures)
+returns c = omega (arith, c .nodes-end .ensures)
 
 pub file-size-spec : {M : Type 1} → statement M
 file-size-spec = tie.close (tie.spec (λ c κs. tt) (λ c. search needs) returns)

@@ -10,4 +10,4 @@ unfolding inputOffset
 returns c = omega arith
 
 pub input-offset-spec : {M : Type 1} → statement M
-input-offset-spec = tie.close (tie.spec (λ c. search needs) (λ c. search needs) (λ c. search needs) (λ c. search needs) returns)
+input-offset-spec = tie.close (tie.spec (λ c. search needs) (λ c. search needs) (λ c. search needs) (λ c. search needs) (λ c. search needs) returns)

@@ -12,11 +12,11 @@ cast-type : tie.Need-cast-type-offset
 unfolding foundAt
 cast-type c = omega (arith, c .before .before .before .pre .0 _ (ap foundAt (c .before .bad-type .given .1)))
 
-cast-input : tie.Need-cast-input-offset
+cast-input : tie.Need-cast-t14
 unfolding foundAt
 cast-input c = omega (arith, c .before .before .before .before .before .pre .1 .0 _ (ap foundAt (c .before .bad-input .given .1)))
 
-cast-node : tie.Need-cast-node-offset
+cast-node : tie.Need-cast-t20
 unfolding foundAt
 cast-node c = omega (arith, c .before .before .before .before .before .before .before .pre .1 .1 _ (ap foundAt (c .before .bad-node .given .1)))
 
