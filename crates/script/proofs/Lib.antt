@@ -1,5 +1,7 @@
 pub mod Numbered
 pub mod Rows
+pub mod ColumnWidths
+pub mod ReplyLaws
 pub mod TableLaws
 pub mod RefusalLaws
 pub mod Sound

@@ -17,20 +17,20 @@ use Rattle.script.specs.declared.Verdict.the-variants as Verdict
 use Rattle.script.specs.declared.Writing.{Writing}
 use Rattle.script.specs.declared.Writing.the-variants as Writing
 use Rattle.script.specs.Tables.{over, roomRefusal, writtenOutput}
-use Rattle.script.specs.Replies.{refusalOf, writing, WritesText, Fitted}
+use Rattle.script.specs.Replies.{replying, writingReply, refusalOf, WritesText, Fitted}
 use Rattle.script.proofs.Verdicts.{told-none}
 
 module _ {text before after : List ℕ} where
   pub text-fits : {k : ℕ} → k ≡ length text → k ≤ length before → after ≡ over text before → Fitted text before after (Writing.Written k)
-  unfolding roomRefusal refusedUnless writing writtenOutput
+  unfolding roomRefusal refusedUnless replying writingReply writtenOutput
   text-fits e h p =
       let q : leb (length text) (length before) ≡ true = le-leb (length text) (length before) (omega arith) in
-      record { reply = rw q (ap Writing.Written e); output = rw q p }
+      record { reply = rw (q, e); output = rw q p }
 
   pub text-short :
       {k : ℕ} → k ≡ length text → length before < k → after ≡ before →
       Fitted text before after (Writing.Refused (record { number = 21; place = 0 }))
-  unfolding roomRefusal refusedUnless writing writtenOutput
+  unfolding roomRefusal refusedUnless replying writingReply writtenOutput
   text-short e h p =
       let q : leb (length text) (length before) ≡ false = lt-leb (length text) (length before) (omega arith) in
       record { reply = rw q; output = rw q p }
@@ -45,5 +45,5 @@ module _ {v : Verdict} {p : Option Checker.Refusal} {text before : List ℕ} (to
   pub writes-refused :
       {f : Refusal} {r : Writing} → v ≡ Verdict.Refused f → r ≡ Writing.Refused f →
       WritesText (orElse p (roomRefusal text before)) text before before r
-  unfolding refusalOf orElse writing writtenOutput
+  unfolding refusalOf orElse replying writingReply writtenOutput
   writes-refused q e = record { reply = rw (e, ← told, q); output = rw (← told, q) }

@@ -5,5 +5,6 @@ pub mod KindRows
 pub mod Refusals
 pub mod Columns
 pub mod Tables
+pub mod Widths
 pub mod Replies
 pub mod Words

@@ -1,5 +1,6 @@
--- The answers of reader, writer and checks as the code gives them, with the paper's number and values for each case.
--- Assumes nothing.
+-- The answers of reader, writer and checks as the code gives them, with the paper's number and values for each case: "A reply
+-- carries number, place and steps .. a success has number 0 and place 0". Reader, writer and checks take no steps. The last
+-- definitions are what these entries promise. Assumes nothing.
 use Prim.Native.Nat.{ℕ, _<_}
 use mathlib.Core.List.{List}
 use mathlib.Core.Path.{_≡_}
@@ -16,6 +17,7 @@ use Rattle.script.specs.declared.Writing.the-variants as Writing
 use Rattle.script.specs.declared.Found.{Found}
 use Rattle.script.specs.declared.Found.the-variants as Found
 use Rattle.script.specs.File.{headTypes, headInputs, headNodes, fileBytes}
+use Rattle.script.specs.Widths.{LentTables}
 use Rattle.script.specs.Tables.{Tables, tablesScript, readRefusal, readTables, roomRefusal, writeRefusal, writtenOutput}
 
 -- a place, or none
@@ -27,37 +29,62 @@ foundAt (Found.At i) = some i
 abbrev pub FoundBelow : ℕ → Found → Type 0
 FoundBelow n f = (j : ℕ) → foundAt f ≡ some j → j < n
 
--- the paper's number and place of a verdict; a success has none
+-- what a verdict refuses, if anything: for checks within a crate
 unfoldable pub refusalOf : Verdict → Option Checker.Refusal
 refusalOf Verdict.Passed = none
 refusalOf (Verdict.Refused f) = some (record { number = f .number; place = f .place })
 
--- the reader's answer: the counts of the file, or number and place
-unfoldable pub reading : Option Checker.Refusal → List ℕ → Reading
-reading none bs = Reading.Read (record { types = headTypes bs; inputs = headInputs bs; nodes = headNodes bs })
-reading (some f) bs = Reading.Refused (record { number = f .number; place = f .place })
+-- a reply: number, place, and the values that only a success carries
+pub record Reply (A : Type 0) : Type 0 where
+  pub number : ℕ
+  pub place : ℕ
+  pub carried : Option A
 
--- the answer where a text was to be written: how many bytes were, or number and place
-unfoldable pub writing : Option Checker.Refusal → List ℕ → Writing
-writing none text = Writing.Written (length text)
-writing (some f) text = Writing.Refused (record { number = f .number; place = f .place })
+-- the reply where this refuses, if anything, and where a success carries a
+unfoldable pub replying : {A : Type 0} → Option Checker.Refusal → A → Reply A
+replying none a = record { number = 0; place = 0; carried = some a }
+replying (some f) a = record { number = f .number; place = f .place; carried = none }
+
+-- each case of a verdict; a success carries nothing
+unfoldable pub verdictReply : Verdict → Reply (Unit {0})
+verdictReply Verdict.Passed = record { number = 0; place = 0; carried = some tt }
+verdictReply (Verdict.Refused f) = record { number = f .number; place = f .place; carried = none }
+
+-- each case of the reader's answer; a success carries the counts
+unfoldable pub readingReply : Reading → Reply Counts
+readingReply (Reading.Read n) = record { number = 0; place = 0; carried = some n }
+readingReply (Reading.Refused f) = record { number = f .number; place = f .place; carried = none }
+
+-- each case of the answer where a text was to be written; a success carries how many bytes were
+unfoldable pub writingReply : Writing → Reply ℕ
+writingReply (Writing.Written k) = record { number = 0; place = 0; carried = some k }
+writingReply (Writing.Refused f) = record { number = f .number; place = f .place; carried = none }
+
+-- what a check promises: that this refuses, if anything
+pub record Tells (f : Option Checker.Refusal) (r : Verdict) : Type 0 where
+  pub reply : verdictReply r ≡ replying f tt
+
+-- the counts in a file's head
+unfoldable pub headCounts : List ℕ → Counts
+headCounts bs = record { types = headTypes bs; inputs = headInputs bs; nodes = headNodes bs }
 
 -- what the reader promises of a file and of the tables before and after
 pub record Reads (bs : List ℕ) (before after : Tables) (r : Reading) : Type 0 where
-  pub reply : r ≡ reading (readRefusal bs before) bs
+  pub reply : readingReply r ≡ replying (readRefusal bs before) (headCounts bs)
   pub tables : after ≡ readTables (readRefusal bs before) bs before
 
 -- what is promised where a text is to be written, of the answer and of the output before and after; f tells what refuses it
 pub record WritesText (f : Option Checker.Refusal) (text before after : List ℕ) (r : Writing) : Type 0 where
-  pub reply : r ≡ writing f text
+  pub reply : writingReply r ≡ replying f (length text)
   pub output : after ≡ writtenOutput f text before
 
 -- where only a short output refuses it
 abbrev pub Fitted : List ℕ → List ℕ → List ℕ → Writing → Type 0
 Fitted text before after r = WritesText (roomRefusal text before) text before after r
 
--- what the writer promises of counts, tables and the output before and after
-abbrev pub Writes : Counts → Tables → List ℕ → List ℕ → Writing → Type 0
-Writes n x before after r =
-    WritesText (writeRefusal (n .types) (n .inputs) (n .nodes) x before) (fileBytes (tablesScript (n .types) (n .inputs) (n .nodes) x))
-    before after r
+-- what the writer promises of counts, tables and the output before and after; and that what it was lent has its columns' widths
+pub record Writes (n : Counts) (x : Tables) (before after : List ℕ) (r : Writing) : Type 0 where
+  pub text :
+      WritesText (writeRefusal (n .types) (n .inputs) (n .nodes) x before)
+      (fileBytes (tablesScript (n .types) (n .inputs) (n .nodes) x)) before after r
+  pub lent : LentTables (n .types) (n .inputs) (n .nodes) x

@@ -3,6 +3,7 @@ pub mod column;
 pub mod kinds;
 pub mod limits;
 pub mod place;
+pub mod widths;
 pub mod word;
 
 use lambdamix::Use;
