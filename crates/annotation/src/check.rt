@@ -9,7 +9,7 @@ ghost use Prim.Native.Nat.{min, _≤_};
 ghost use mathlib.Core.Path.{_≡_};
 ghost use lib.ListN.{length};
 ghost use Rattle.lambdamix.specs.Limits.{maxNodes};
-ghost use Rattle.script.specs.Replies.{refusalOf};
+ghost use Rattle.script.specs.Replies.{refusalOf, Tells};
 ghost use Rattle.script.specs.Tables.{tablesOf};
 ghost use Rattle.annotation.specs.Checks.{checkRefusal};
 
@@ -58,7 +58,7 @@ pub fn check(
     c: &[u16],
     values: &[i32],
 ) -> Verdict
-    ensures { λ r. ⌜ refusalOf r ≡ checkRefusal (n .types) (n .inputs) (n .nodes) (tablesOf (now (parameters .entry)) (now (results .entry)) (now (inputs .entry)) (now (kinds .entry)) (now (a .entry)) (now (b .entry)) (now (c .entry)) (now (values .entry))) ⌝ }
+    ensures { λ r. ⌜ Tells (checkRefusal (n .types) (n .inputs) (n .nodes) (tablesOf (now (parameters .entry)) (now (results .entry)) (now (inputs .entry)) (now (kinds .entry)) (now (a .entry)) (now (b .entry)) (now (c .entry)) (now (values .entry)))) r ⌝ }
 {
     if (n.nodes as usize) <= FEW_NODES {
         let mut words = [0u64; FEW_NODES];

@@ -16,7 +16,8 @@ use Rattle.script.specs.Bytes.{byteAt, word16, word32, signed32}
 use Rattle.script.specs.File.{numbered, typeOffset, inputOffset, nodeOffset, typeFrom, inputFrom, nodeFrom, headTypes, headInputs, headNodes, scriptIn}
 use Rattle.script.specs.Tables.{Tables, rowType, rowInput, rowNode, tablesScript, over, filled, tablesOf}
 use Rattle.script.specs.Columns.{enough}
-use Rattle.file.specs.Heads.{headCounts, scriptBy, FillFits, noCounts}
+use Rattle.script.specs.Replies.{headCounts}
+use Rattle.file.specs.Heads.{scriptBy, FillFits, noCounts}
 use Rattle.script.proofs.Numbered.{length-numbered, numbered-whole, numbered-same, map-numbered}
 
 -- ---- filled tables hold the script that filled them

@@ -9,7 +9,7 @@ use Rattle.lambdamix.specs.Structure.{orElse, refusedUnless}
 use Rattle.script.specs.declared.Counts.{Counts}
 use Rattle.script.specs.File.{fileLength, headTypes, headInputs, headNodes}
 use Rattle.script.specs.Refusals.{countsRight, headMarked, headRefusal}
-use Rattle.file.specs.Heads.{headCounts}
+use Rattle.script.specs.Replies.{headCounts}
 
 module _ (bs : List ℕ) where
   pub head-by-tests : {a b c d : Bool} → leb 8 (length bs) ≡ a → headMarked bs 0 ≡ b

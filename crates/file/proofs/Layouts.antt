@@ -15,7 +15,8 @@ use Rattle.lambdamix.proofs.Tests.{and-intro, and-both}
 use Rattle.script.specs.Bytes.{byteAt, word16, word32, signed32, bits32, bytes16, bytes32}
 use Rattle.script.specs.File.{typeBytes, typeFrom, inputBytes, inputFrom, nodeBytes, nodeFrom}
 use Rattle.script.specs.Refusals.{marked}
-use Rattle.file.specs.Encodable.{AllBytes, EncodableType, EncodableNode}
+use Rattle.script.specs.Widths.{EncodableType, EncodableNode}
+use Rattle.file.specs.Encodable.{AllBytes}
 use Rattle.file.proofs.ByteLaws.{Stands, stands-left, stands-right, stands-both, stands-nil, stands-cons, word16-at, stands16, word16-small, value-at, value-stands, value-small}
 use Rattle.file.proofs.RecordLaws.{Layout}
 

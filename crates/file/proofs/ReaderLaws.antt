@@ -23,12 +23,13 @@ use Rattle.script.specs.declared.Reading.the-variants as Reading
 use Rattle.script.specs.File.{headTypes, headInputs, headNodes, scriptIn}
 use Rattle.script.specs.Refusals.{countsRight, contentOf, contentRefusal, scriptRefusal, markRefusal, earlier, earlierBy, bodyRefusal, fileRefusal, headRefusal}
 use Rattle.script.specs.Tables.{Tables, tablesScript, filled, longEnough, tablesRefusal, readRefusal, readTables}
-use Rattle.script.specs.Replies.{refusalOf, reading, Reads}
+use Rattle.script.specs.Replies.{refusalOf, headCounts, readingReply, reading, Reads}
 use Rattle.script.specs.Columns.{enough}
+use Rattle.script.proofs.ReplyLaws.{reading-reply}
 use Rattle.script.proofs.Numbered.{length-numbered}
 use Rattle.script.proofs.RefusalLaws.{neither, not-refused, pass-over, either-some, node-number, record-number}
 use Rattle.script.proofs.Sound.{in-limits}
-use Rattle.file.specs.Heads.{headCounts, marksFirst, scriptBy, FillFits, readReply, countsRead}
+use Rattle.file.specs.Heads.{marksFirst, scriptBy, FillFits, readReply, countsRead}
 use Rattle.file.proofs.FillLaws.{file-held, fill-fits, none-fits, by-head, by-none}
 
 -- ---- the columns of the check
@@ -174,7 +175,7 @@ pub counts-fit : (bs : List ℕ) (x : Tables) {r : Reading} {m : Counts} → r �
 unfolding readReply reading orElse refusedUnless headCounts
 counts-fit bs x p c = rw (c, p) (go (fileRefusal bs) (longFor bs x) refl)
   where
-    go : (f : Option Checker.Refusal) (long : Bool) → longFor bs x ≡ long → FillFits (countsRead (reading (orElse f (refusedUnless long 21 0)) bs)) x
+    go : (f : Option Checker.Refusal) (long : Bool) → longFor bs x ≡ long → FillFits (countsRead (reading (orElse f (refusedUnless long 21 0)) (headCounts bs))) x
     go none true e = fill-fits (headCounts bs) x e
     go none false e = none-fits x
     go (some f) long e = none-fits x
@@ -183,10 +184,10 @@ counts-fit bs x p c = rw (c, p) (go (fileRefusal bs) (longFor bs x) refl)
 pub reads-by : (bs : List ℕ) (x y : Tables) {r : Reading} {m : Counts} → r ≡ readReply bs (longFor bs x) → m ≡ countsRead r
     → y ≡ filled (scriptBy m bs) x → Reads bs x y r
 unfolding readReply readRefusal longEnough enough reading orElse refusedUnless readTables headCounts
-reads-by bs x y p c h = record { reply = p; tables = rw (c, p) at h ∙ go (fileRefusal bs) (longFor bs x) }
+reads-by bs x y p c h = record { reply = ap readingReply p ∙ reading-reply _ _; tables = rw (c, p) at h ∙ go (fileRefusal bs) (longFor bs x) }
   where
     go : (f : Option Checker.Refusal) (long : Bool)
-        → filled (scriptBy (countsRead (reading (orElse f (refusedUnless long 21 0)) bs)) bs) x ≡ readTables (orElse f (refusedUnless long 21 0)) bs x
+        → filled (scriptBy (countsRead (reading (orElse f (refusedUnless long 21 0)) (headCounts bs))) bs) x ≡ readTables (orElse f (refusedUnless long 21 0)) bs x
     go none true = ap (λ (s : Script). filled s x) (by-head bs refl)
     go none false = by-none bs x
     go (some f) long = by-none bs x

@@ -23,7 +23,7 @@ use Rattle.lambdamix.proofs.WrittenTree.{top-last, after-last, written-size}
 use Rattle.lambdamix.proofs.Structure.{none-fails}
 use Rattle.lambdamix.proofs.Tests.{and-both}
 use Rattle.lambdamix.proofs.Range.{CodeFits, CodesFit}
-use Rattle.file.specs.Encodable.{EncodableNode}
+use Rattle.script.specs.Widths.{EncodableNode}
 use Rattle.script.specs.Refusals.{fieldRight, fieldsRight, nodeFits, inputFits, countsRight, contentOf, contentRefusal, refusedRecord}
 
 -- a node is a good record at the number j, given the counts of types and inputs, and fits the widths of the file

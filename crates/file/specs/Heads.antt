@@ -1,4 +1,4 @@
--- The parts of the reader: a head's counts, the refusals of marks beside those of tables, and what fills tables. Assumes nothing.
+-- The parts of the reader: the refusals of marks beside those of tables, and what fills tables. Assumes nothing.
 use Prim.Native.Nat.{ℕ, _≤_}
 use mathlib.Core.Bool.{Bool, _&&_}
 use mathlib.Core.List.{List}
@@ -11,13 +11,10 @@ use Rattle.lambdamix.specs.Structure.{orElse, refusedUnless}
 use Rattle.script.specs.declared.Counts.{Counts}
 use Rattle.script.specs.declared.Reading.{Reading}
 use Rattle.script.specs.declared.Reading.the-variants as Reading
-use Rattle.script.specs.File.{scriptWith, headTypes, headInputs, headNodes}
+use Rattle.script.specs.File.{scriptWith}
 use Rattle.script.specs.Tables.{Tables}
-use Rattle.script.specs.Replies.{reading}
+use Rattle.script.specs.Replies.{reading, headCounts}
 use Rattle.script.specs.Refusals.{earlierBy, fileRefusal}
-
-unfoldable pub headCounts : List ℕ → Counts
-headCounts bs = record { types = headTypes bs; inputs = headInputs bs; nodes = headNodes bs }
 
 -- of a wrong mark and what the tables are refused by, "records in order, mark first; 6, 7, 8": a bad record (3 to 5) at a lower offset
 -- comes first, all else after the mark
@@ -43,7 +40,7 @@ pub record FillFits (n : Counts) (x : Tables) : Type 0 where
 
 -- the reader's reply, by whether the tables are long enough
 unfoldable pub readReply : List ℕ → Bool → Reading
-readReply bs long = reading (orElse (fileRefusal bs) (refusedUnless long 21 0)) bs
+readReply bs long = reading (orElse (fileRefusal bs) (refusedUnless long 21 0)) (headCounts bs)
 
 abbrev pub noCounts : Counts
 noCounts = record { types = 0; inputs = 0; nodes = 0 }

@@ -23,12 +23,12 @@ use tables::refusal::long_enough;
 use tables::refusal::tables_refusal;
 ghost use mathlib.Core.Path.{_≡_};
 ghost use mathlib.Core.Bool.{true};
-ghost use Rattle.script.specs.Replies.{refusalOf, Reads};
+ghost use Rattle.script.specs.Replies.{refusalOf, headCounts, Tells, Reads};
 ghost use Rattle.script.specs.File.{headTypes, headInputs, headNodes};
 ghost use Rattle.script.specs.Refusals.{headRefusal, countsRight, bodyRefusal, fileRefusal};
 ghost use Rattle.script.specs.Tables.{filled, tablesOf};
 ghost use Rattle.script.specs.Columns.{enough};
-ghost use Rattle.file.specs.Heads.{headCounts, marksFirst, scriptBy, FillFits, readReply, countsRead};
+ghost use Rattle.file.specs.Heads.{marksFirst, scriptBy, FillFits, readReply, countsRead};
 
 // The counts in a file's head.
 pub fn head_counts(file: &[u8]) -> Counts
@@ -166,7 +166,7 @@ fn body_refusal(file: &[u8]) -> Verdict
 
 // Refusals 1 to 8 of a file.
 pub fn check_file(file: &[u8]) -> Verdict
-    ensures { λ r. ⌜ refusalOf r ≡ fileRefusal (now (file .entry)) ⌝ }
+    ensures { λ r. ⌜ Tells (fileRefusal (now (file .entry))) r ⌝ }
 {
     match head_refusal(file) {
         Verdict::Refused(f) => Verdict::Refused(f),

@@ -11,6 +11,7 @@ use script::place::file_size;
 use script::place::input_offset;
 use script::place::node_offset;
 use script::place::type_offset;
+use script::widths::tables_fit;
 use script::word::bits;
 use tables::refusal::tables_refusal;
 ghost use Prim.Native.Nat.{_+_, _≤_};
@@ -233,6 +234,7 @@ pub fn write(
 ) -> Writing
     ensures { λ r. ⌜ Writes n (tablesOf (now (parameters .entry)) (now (results .entry)) (now (inputs .entry)) (now (kinds .entry)) (now (a .entry)) (now (b .entry)) (now (c .entry)) (now (values .entry))) (now (out .entry)) (now (out .exit)) r ⌝ }
 {
+    tables_fit(n, parameters, results, inputs, kinds, a, b, c, values);
     match tables_refusal(n, parameters, results, inputs, kinds, a, b, c, values) {
         Verdict::Passed => fit(n, parameters, results, inputs, kinds, a, b, c, values, out),
         Verdict::Refused(f) => Writing::Refused(f),

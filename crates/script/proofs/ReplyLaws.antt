@@ -14,7 +14,7 @@ use Rattle.script.specs.declared.Reading.{Reading}
 use Rattle.script.specs.declared.Reading.the-variants as Reading
 use Rattle.script.specs.declared.Writing.{Writing}
 use Rattle.script.specs.declared.Writing.the-variants as Writing
-use Rattle.script.specs.Replies.{Reply, replying, verdictReply, readingReply, writingReply, refusalOf, headCounts, Tells, Reads, WritesText}
+use Rattle.script.specs.Replies.{Reply, replying, verdictReply, readingReply, writingReply, refusalOf, reading, writing, headCounts, Tells, Reads, WritesText}
 use Rattle.script.specs.Tables.{Tables, readRefusal}
 
 apart : {A B : Type 0} (a : A) → some a ≡ none → B
@@ -43,15 +43,7 @@ tells-by {v} e = record { reply = verdict-reply v ∙ ap (λ p. replying p tt) e
 pub told-by : {v : Verdict} {p : Option Checker.Refusal} → Tells p v → refusalOf v ≡ p
 told-by {v} {p} t = one-refusal tt tt (refusalOf v) p (sym (verdict-reply v) ∙ t .reply)
 
--- The answer of reader, writer and listing where this refuses, if anything, and where a success carries a.
-unfoldable pub reading : Option Checker.Refusal → Counts → Reading
-reading none n = Reading.Read n
-reading (some f) n = Reading.Refused (record { number = f .number; place = f .place })
-
-unfoldable pub writing : Option Checker.Refusal → ℕ → Writing
-writing none k = Writing.Written k
-writing (some f) k = Writing.Refused (record { number = f .number; place = f .place })
-
+-- The answers of reader, writer and listing are the cases that their replies tell.
 pub reading-reply : (p : Option Checker.Refusal) (n : Counts) → readingReply (reading p n) ≡ replying p n
 unfolding readingReply reading replying
 reading-reply none n = refl

@@ -60,6 +60,15 @@ unfoldable pub writingReply : Writing → Reply ℕ
 writingReply (Writing.Written k) = record { number = 0; place = 0; carried = some k }
 writingReply (Writing.Refused f) = record { number = f .number; place = f .place; carried = none }
 
+-- the answers of reader, writer and listing with this reply
+unfoldable pub reading : Option Checker.Refusal → Counts → Reading
+reading none n = Reading.Read n
+reading (some f) n = Reading.Refused (record { number = f .number; place = f .place })
+
+unfoldable pub writing : Option Checker.Refusal → ℕ → Writing
+writing none k = Writing.Written k
+writing (some f) k = Writing.Refused (record { number = f .number; place = f .place })
+
 -- what a check promises: that this refuses, if anything
 pub record Tells (f : Option Checker.Refusal) (r : Verdict) : Type 0 where
   pub reply : verdictReply r ≡ replying f tt

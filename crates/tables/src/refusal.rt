@@ -14,7 +14,7 @@ ghost use lib.ListN.{length};
 ghost use Rattle.lambdamix.specs.Limits.{maxNodes};
 ghost use Rattle.script.specs.Refusals.{scriptRefusal};
 ghost use Rattle.script.specs.Tables.{tablesScript, tablesRefusal, tablesOf};
-ghost use Rattle.script.specs.Replies.{refusalOf};
+ghost use Rattle.script.specs.Replies.{refusalOf, Tells};
 ghost use Rattle.script.specs.Columns.{enough};
 ghost use Rattle.tables.specs.PackedTables.{HoldNodes, PackedTables};
 
@@ -152,7 +152,7 @@ pub fn tables_refusal(
     c: &[u16],
     values: &[i32],
 ) -> Verdict
-    ensures { λ r. ⌜ refusalOf r ≡ tablesRefusal (n .types) (n .inputs) (n .nodes) (tablesOf (now (parameters .entry)) (now (results .entry)) (now («input_types» .entry)) (now (kinds .entry)) (now (a .entry)) (now (b .entry)) (now (c .entry)) (now (values .entry))) ⌝ }
+    ensures { λ r. ⌜ Tells (tablesRefusal (n .types) (n .inputs) (n .nodes) (tablesOf (now (parameters .entry)) (now (results .entry)) (now («input_types» .entry)) (now (kinds .entry)) (now (a .entry)) (now (b .entry)) (now (c .entry)) (now (values .entry)))) r ⌝ }
 {
     if (n.nodes as usize) <= FEW_NODES {
         let mut words = [0u64; FEW_NODES];
@@ -207,7 +207,7 @@ pub fn tables_packed(
     values: &[i32],
     words: &mut [u64],
 ) -> Verdict
-    ensures reply { λ r. ⌜ refusalOf r ≡ tablesRefusal (n .types) (n .inputs) (n .nodes) (tablesOf (now (parameters .entry)) (now (results .entry)) (now («input_types» .entry)) (now (kinds .entry)) (now (a .entry)) (now (b .entry)) (now (c .entry)) (now (values .entry))) ⌝ }
+    ensures reply { λ r. ⌜ Tells (tablesRefusal (n .types) (n .inputs) (n .nodes) (tablesOf (now (parameters .entry)) (now (results .entry)) (now («input_types» .entry)) (now (kinds .entry)) (now (a .entry)) (now (b .entry)) (now (c .entry)) (now (values .entry)))) r ⌝ }
     ensures packed { λ r. ⌜ PackedTables r (n .nodes) (tablesOf (now (parameters .entry)) (now (results .entry)) (now («input_types» .entry)) (now (kinds .entry)) (now (a .entry)) (now (b .entry)) (now (c .entry)) (now (values .entry))) (now (words .entry)) (now (words .exit)) ⌝ }
 {
     if enough_words(n.nodes, words.len()) {

@@ -1,6 +1,7 @@
 -- `annotation::check::check_in` meets its contract: by the verdict on the tables, whose nodes are then in the words. Assumes nothing.
 use borrow.Author.Needs.{needs}
 use Rattle.script.specs.Tables.{rowNode}
+use Rattle.script.proofs.ReplyLaws.{told-by}
 use Rattle.script.proofs.Verdicts.{told-none, told-first, told-then}
 use Rattle.annotation.specs.Checks.{checkRefusal}
 use Rattle.annotation.proofs.check.check_in.Statement.{statement}
@@ -8,15 +9,15 @@ use Rattle.annotation.proofs.check.check_in.Tie as tie
 
 returns : tie.Need-returns
 unfolding checkRefusal
-returns c = told-first (c .before .before .before .before .before .tables-packed .ensures .0) _ (c .before .f .given .1) (search needs)
+returns c = told-first (told-by (c .before .before .before .before .before .tables-packed .ensures .0)) _ (c .before .f .given .1) (search needs)
 
 returns-2 : tie.Need-returns-2
 unfolding checkRefusal rowNode
 returns-2 c =
     let p = c .before .before .before .before .before .before .tables-packed in
     let passed = c .before .before .enum-told .given .1 in
-    told-then (p .ensures .0) passed
-    (c .annotation-refusal .ensures .reply _ _ _ _ _ (told-none (p .ensures .0) passed)
+    told-then (told-by (p .ensures .0)) passed
+    (c .annotation-refusal .ensures .reply _ _ _ _ _ (told-none (told-by (p .ensures .0)) passed)
     (p .ensures .1 .nodes passed (c .before .before .before .before .before .before .before .before .before .before .before .before .before .before .before .before .pre)))
 
 pub check-in-spec : {M : Type 1} → statement M

@@ -1,6 +1,7 @@
 -- `file::reader::body_refusal` meets its contract: its own columns hold the file's script. Assumes nothing.
 use mathlib.Core.Path.{refl, sym}
 use Rattle.lambdamix.specs.Limits.{maxTypes, maxInputs, maxNodes}
+use Rattle.script.proofs.ReplyLaws.{told-by}
 use Rattle.file.proofs.ReaderLaws.{own-fits, body-by-tables}
 use Rattle.file.proofs.reader.body_refusal.Statement.{statement}
 use Rattle.file.proofs.reader.body_refusal.Tie as tie
@@ -17,7 +18,7 @@ returns c =
     let n = c .before .before .before .before .before .before .before .before .before .before .before .before .before .before .before .before .before .before .before .before .before .before .before .before .before .before .before .before .head-counts .ensures in
     body-by-tables _ n (c .before .before .before .before .before .before .before .before .before .before .before .before .before .before .before .before .before .before .before .before .before .before .before .before .before .before .before .before .before .before .pre) _ (c .before .before .before .before .before .before .before .before .before .before .before .before .before .before .before .before .before .before .fill-tables .ensures)
     (own-fits _ _ n (c .before .before .before .before .before .before .before .before .before .before .before .before .before .before .before .before .before .before .before .before .before .before .before .before .before .before .before .before .before .before .pre) (k .0) (k .1 .0) (k .1 .1 .0) (k .1 .1 .1 .0) (k .1 .1 .1 .1 .0) (k .1 .1 .1 .1 .1 .0) (k .1 .1 .1 .1 .1 .1 .0) (k .1 .1 .1 .1 .1 .1 .1 .0))
-    (c .before .before .before .before .before .before .before .before .before .before .before .before .before .before .before .before .before .before .before .before .before .before .before .before .before .before .before .mark-refusal .ensures) (c .before .tables-refusal .ensures) (c .marks-first .ensures)
+    (c .before .before .before .before .before .before .before .before .before .before .before .before .before .before .before .before .before .before .before .before .before .before .before .before .before .before .before .mark-refusal .ensures) (told-by (c .before .tables-refusal .ensures)) (c .marks-first .ensures)
 
 pub body-refusal-spec : {M : Type 1} → statement M
 body-refusal-spec =

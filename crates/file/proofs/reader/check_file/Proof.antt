@@ -1,6 +1,7 @@
 -- `file::reader::check_file` meets its contract: the head, then the body. Assumes nothing.
 use borrow.Author.Needs.{needs}
 use Rattle.script.specs.Refusals.{fileRefusal}
+use Rattle.script.proofs.ReplyLaws.{tells-by}
 use Rattle.script.proofs.Verdicts.{told-none, told-first, told-then}
 use Rattle.file.proofs.ReaderLaws.{head-passes}
 use Rattle.file.proofs.reader.check_file.Statement.{statement}
@@ -11,11 +12,12 @@ body-refusal-requires c κs = head-passes _ (told-none (c .before .before .head-
 
 returns : tie.Need-returns
 unfolding fileRefusal
-returns c = told-first (c .before .before .before .head-refusal .ensures) _ (c .before .f .given .1) (search needs)
+returns c = tells-by (told-first (c .before .before .before .head-refusal .ensures) _ (c .before .f .given .1) (search needs))
 
 returns-2 : tie.Need-returns-2
 unfolding fileRefusal
-returns-2 c = told-then (c .before .before .before .head-refusal .ensures) (c .before .enum-told .given .1) (c .body-refusal .ensures)
+returns-2 c =
+    tells-by (told-then (c .before .before .before .head-refusal .ensures) (c .before .enum-told .given .1) (c .body-refusal .ensures))
 
 pub check-file-spec : {M : Type 1} → statement M
 check-file-spec =

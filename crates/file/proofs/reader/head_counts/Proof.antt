@@ -1,6 +1,6 @@
 -- `file::reader::head_counts` meets its contract. Assumes nothing.
 use Rattle.script.specs.File.{headTypes, headInputs, headNodes}
-use Rattle.file.specs.Heads.{headCounts}
+use Rattle.script.specs.Replies.{headCounts}
 use Rattle.file.proofs.reader.head_counts.Statement.{statement}
 use Rattle.file.proofs.reader.head_counts.Tie as tie
 

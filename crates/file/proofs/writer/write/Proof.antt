@@ -2,22 +2,29 @@
 use borrow.Author.Needs.{needs}
 use mathlib.Core.Path.{refl}
 use Rattle.script.specs.Tables.{writeRefusal}
+use Rattle.script.proofs.ReplyLaws.{told-by}
 use Rattle.script.proofs.Texts.{writes-passed, writes-refused}
 use Rattle.file.proofs.writer.write.Statement.{statement}
 use Rattle.file.proofs.writer.write.Tie as tie
 
 returns : tie.Need-returns
 unfolding writeRefusal
-returns c = writes-passed (c .before .before .before .before .before .before .tables-refusal .ensures) (c .before .before .before .before .enum-told .given .1) (c .before .before .fit .ensures)
+returns c =
+    record {
+      text = writes-passed (told-by (c .before .before .before .before .before .before .tables-refusal .ensures)) (c .before .before .before .before .enum-told .given .1) (c .before .before .fit .ensures);
+      lent = c .before .before .before .before .before .before .before .tables-fit .ensures;
+    }
 
 returns-2 : tie.Need-returns-2
 unfolding writeRefusal
-returns-2 c = writes-refused (c .before .before .before .tables-refusal .ensures) (c .before .f .given .1) refl
+returns-2 c =
+    record { text = writes-refused (told-by (c .before .before .before .tables-refusal .ensures)) (c .before .f .given .1) refl; lent = c .before .before .before .before .tables-fit .ensures }
 
 pub write-spec : {M : Type 1} → statement M
 write-spec =
     tie.close
     (tie.spec
+    (λ c κs. tt)
     (λ c κs. search needs)
     (λ c. search needs)
     (λ c κs. search needs)
