@@ -20,7 +20,10 @@ use Rattle.lambdamix.specs.Text.{ascii, digits}
 use Rattle.lambdamix.specs.Listing.{termText, listing}
 use Rattle.lambdamix.proofs.Falling.{below-at}
 use Rattle.lambdamix.proofs.Tests.{or-left, or-right}
-use Rattle.file.specs.Encodable.{Encodable, LentTables}
+use Rattle.script.specs.declared.Writing.{Writing}
+use Rattle.script.specs.Widths.{LentTables}
+use Rattle.script.specs.Replies.{replying, writingReply}
+use Rattle.file.specs.Encodable.{Encodable}
 use Rattle.file.proofs.WriterRefusals.{lent-encodable}
 use Rattle.script.specs.declared.Counts.{Counts}
 use Rattle.script.specs.Refusals.{scriptRefusal}
@@ -29,7 +32,7 @@ use Rattle.script.proofs.RefusalLaws.{neither}
 use Rattle.script.proofs.Sound.{Sound, sound}
 use Rattle.tables.proofs.Agreement.{children-fall}
 use Rattle.printer.specs.Nodes.{nodesText}
-use Rattle.printer.specs.Answers.{tablesText, listRefusal}
+use Rattle.printer.specs.Answers.{tablesText, listRefusal, ListsTables}
 use Rattle.printer.proofs.NodeLaws.{node-step}
 use Rattle.printer.proofs.Trees.{tree-text}
 use Rattle.printer.proofs.OwnBytes.{total, own-bytes}
@@ -178,14 +181,19 @@ module _ (n : Counts) (x : Tables) (lent : LentTables (n .types) (n .inputs) (n 
   unfolding tablesRefusal tablesText
   lent-bound e = listing-bound _ (lent-encodable lent) (neither _ _ e .1)
 
-  -- So with an output of as many bytes `list` never answers 21.
-  pub room-for-listing :
-      (out : List ℕ) → maxBytes ≤ length out → listRefusal n x out ≡ tablesRefusal (n .types) (n .inputs) (n .nodes) x
+  -- So an output of as many bytes is never too short for it.
+  room-enough : (out : List ℕ) → maxBytes ≤ length out → listRefusal n x out ≡ tablesRefusal (n .types) (n .inputs) (n .nodes) x
   unfolding listRefusal roomRefusal orElse refusedUnless
-  room-for-listing out room = go (tablesRefusal (n .types) (n .inputs) (n .nodes) x) refl
+  room-enough out room = go (tablesRefusal (n .types) (n .inputs) (n .nodes) x) refl
     where
       go :
           (r : Option Refusal) → tablesRefusal (n .types) (n .inputs) (n .nodes) x ≡ r →
           orElse r (roomRefusal (tablesText n x) out) ≡ r
       go none e = rw (le-leb (length (tablesText n x)) (length out) (omega (arith, lent-bound e)))
       go (some f) e = refl
+
+-- The reply of a call of `list` that is lent as many bytes, by its promise alone: 1 to 8, or the whole listing; never 21.
+pub room-for-listing :
+    {n : Counts} {x : Tables} {before after : List ℕ} {r : Writing} → ListsTables n x before after r → maxBytes ≤ length before →
+    writingReply r ≡ replying (tablesRefusal (n .types) (n .inputs) (n .nodes) x) (length (tablesText n x))
+room-for-listing {n} {x} {before} h room = rw (room-enough n x (h .lent) before room) at (h .text .reply)

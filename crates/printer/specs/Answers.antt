@@ -10,6 +10,7 @@ use Rattle.lambdamix.specs.Listing as Text
 use Rattle.script.specs.declared.Counts.{Counts}
 use Rattle.script.specs.declared.Writing.{Writing}
 use Rattle.script.specs.Tables.{Tables, tablesOf, tablesScript, tablesRefusal, roomRefusal}
+use Rattle.script.specs.Widths.{LentTables}
 use Rattle.script.specs.Replies.{WritesText, Fitted}
 
 -- the listing of the script that tables hold
@@ -20,9 +21,11 @@ tablesText n x = Text.listing (tablesScript (n .types) (n .inputs) (n .nodes) x)
 unfoldable pub listRefusal : Counts → Tables → List ℕ → Option Refusal
 listRefusal n x out = orElse (tablesRefusal (n .types) (n .inputs) (n .nodes) x) (roomRefusal (tablesText n x) out)
 
--- what the listing promises of counts, tables and the output before and after, for every call
-abbrev pub ListsTables : Counts → Tables → List ℕ → List ℕ → Writing → Type 0
-ListsTables n x before after r = WritesText (listRefusal n x before) (tablesText n x) before after r
+-- what the listing promises of counts, tables and the output before and after, for every call; and that what it was lent has its
+-- columns' widths
+pub record ListsTables (n : Counts) (x : Tables) (before after : List ℕ) (r : Writing) : Type 0 where
+  pub text : WritesText (listRefusal n x before) (tablesText n x) before after r
+  pub lent : LentTables (n .types) (n .inputs) (n .nodes) x
 
 -- the same of node columns alone, for any type and input columns with which refusals 1 to 8 tell nothing
 pub record Lists (n : Counts) (kinds a b c : List ℕ) (values : List ℤ) (before after : List ℕ) (r : Writing) : Type 0 where

@@ -4,6 +4,7 @@ use script::Counts;
 use script::Refusal;
 use script::Verdict;
 use script::Writing;
+use script::widths::tables_fit;
 use tables::refusal::tables_refusal;
 ghost use Rattle.script.specs.Tables.{tablesOf};
 ghost use Rattle.printer.specs.Answers.{Lists, ListsTables};
@@ -47,6 +48,7 @@ pub fn list(
 ) -> Writing
     ensures { λ r. ⌜ ListsTables n (tablesOf (now (parameters .entry)) (now (results .entry)) (now (inputs .entry)) (now (kinds .entry)) (now (a .entry)) (now (b .entry)) (now (c .entry)) (now (values .entry))) (now (out .entry)) (now (out .exit)) r ⌝ }
 {
+    tables_fit(n, parameters, results, inputs, kinds, a, b, c, values);
     match tables_refusal(n, parameters, results, inputs, kinds, a, b, c, values) {
         Verdict::Refused(f) => Writing::Refused(f),
         Verdict::Passed => list_tables(n, kinds, a, b, c, values, out),

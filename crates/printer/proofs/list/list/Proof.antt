@@ -1,5 +1,6 @@
 -- `printer::list::list` meets its contract: by the verdict on the tables. Assumes nothing.
 use borrow.Author.Needs.{needs}
+use Rattle.script.proofs.ReplyLaws.{told-by}
 use Rattle.script.proofs.Verdicts.{told-none}
 use Rattle.script.proofs.Texts.{writes-passed, writes-refused}
 use Rattle.printer.specs.Answers.{listRefusal}
@@ -8,19 +9,27 @@ use Rattle.printer.proofs.list.list.Tie as tie
 
 returns : tie.Need-returns
 unfolding listRefusal
-returns c = writes-refused (c .before .before .before .tables-refusal .ensures) (c .before .f .given .1) (search needs)
+returns c =
+    record {
+      text = writes-refused (told-by (c .before .before .before .tables-refusal .ensures)) (c .before .f .given .1) (search needs);
+      lent = c .before .before .before .before .tables-fit .ensures;
+    }
 
 returns-2 : tie.Need-returns-2
 unfolding listRefusal
 returns-2 c =
-    let told = c .before .before .before .before .before .before .tables-refusal .ensures in
+    let told = told-by (c .before .before .before .before .before .before .tables-refusal .ensures) in
     let passed = c .before .before .before .before .enum-told .given .1 in
-    writes-passed told passed (c .before .before .list-tables .ensures .lists _ _ _ (told-none told passed))
+    record {
+      text = writes-passed told passed (c .before .before .list-tables .ensures .lists _ _ _ (told-none told passed));
+      lent = c .before .before .before .before .before .before .before .tables-fit .ensures;
+    }
 
 pub list-spec : {M : Type 1} → statement M
 list-spec =
     tie.close
     (tie.spec
+    (λ c κs. tt)
     (λ c κs. search needs)
     (λ c. search needs)
     (λ c. search needs)
