@@ -25,7 +25,7 @@ use Rattle.script.specs.declared.Counts.{Counts}
 use Rattle.script.specs.declared.Refusal as Told
 use Rattle.script.specs.File.{fileBytes, fileLength, nodeOffset, scriptIn}
 use Rattle.script.specs.Refusals.{fileRefusal}
-use Rattle.file.specs.Heads.{headCounts}
+use Rattle.script.specs.Replies.{headCounts}
 use Rattle.script.specs.Tables.{Tables, over}
 use Rattle.script.proofs.RefusalLaws.{neither}
 use Rattle.file.proofs.FileLaws.{file-length, file-refusal, read-written, script-counts, script-passes}

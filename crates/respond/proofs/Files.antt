@@ -14,7 +14,7 @@ use Rattle.script.specs.Columns.{enough}
 use Rattle.script.specs.declared.Counts.{Counts}
 use Rattle.script.specs.File.{headTypes, headInputs, headNodes, scriptIn}
 use Rattle.script.specs.Refusals.{countsRight, scriptRefusal, fileRefusal}
-use Rattle.file.specs.Heads.{headCounts}
+use Rattle.script.specs.Replies.{headCounts}
 use Rattle.script.specs.Tables.{Tables, tablesRefusal, longEnough}
 use Rattle.script.proofs.RefusalLaws.{neither, pass-over}
 use Rattle.script.proofs.Sound.{in-limits}

@@ -15,7 +15,7 @@ use Rattle.script.specs.declared.Reading.{Reading}
 use Rattle.script.specs.declared.Reading.the-variants as Reading
 use Rattle.script.specs.File.{fileLength, scriptIn}
 use Rattle.script.specs.Refusals.{fileRefusal}
-use Rattle.file.specs.Heads.{headCounts}
+use Rattle.script.specs.Replies.{headCounts}
 use Rattle.file.specs.Encodable.{AllBytes}
 use Rattle.script.specs.Tables.{Tables, tablesScript, tablesRefusal, longEnough}
 use Rattle.printer.specs.Places.{Placed}

@@ -4,6 +4,5 @@ pub mod Zeros
 pub mod Binding
 pub mod Refusing
 pub mod Running
-pub mod Numbers
 pub mod Making
 pub mod EntryDemand
