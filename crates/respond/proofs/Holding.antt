@@ -21,10 +21,10 @@ use Rattle.script.specs.declared.Reading.{Reading}
 use Rattle.script.specs.declared.Reading.the-variants as Reading
 use Rattle.script.specs.File.{fileLength, headTypes, headInputs, headNodes, scriptIn}
 use Rattle.script.specs.Refusals.{fileRefusal}
-use Rattle.script.specs.Replies.{headCounts}
 use Rattle.file.specs.Encodable.{AllBytes}
 use Rattle.script.specs.Tables.{Tables, over, filled, longEnough, readRefusal, readTables}
-use Rattle.script.specs.Replies.{reading, Reads}
+use Rattle.script.specs.Replies.{headCounts, reading, Reads}
+use Rattle.script.proofs.ReplyLaws.{read-answer}
 use Rattle.script.proofs.Sound.{in-limits}
 use Rattle.file.proofs.FillLaws.{file-held}
 use Rattle.file.proofs.FileLaws.{read-fits, script-counts, script-passes}
@@ -85,12 +85,12 @@ module _ {bs : List ℕ} {x y : Tables} {r : Reading} (room : longEnough maxType
 
   pub passed-read : fileRefusal bs ≡ none → r ≡ Reading.Read (headCounts bs)
   unfolding reading headCounts
-  passed-read e = rw (not-short e) at (reads .reply)
+  passed-read e = rw (not-short e) at (read-answer reads)
 
   pub refused-read :
       {f : Refusal} → fileRefusal bs ≡ some f → r ≡ Reading.Refused (record { number = f .number; place = f .place })
   unfolding readRefusal reading orElse
-  refused-read e = rw e at (reads .reply)
+  refused-read e = rw e at (read-answer reads)
 
   pub held : AllBytes bs → fileRefusal bs ≡ none → Held bs (headCounts bs) y
   unfolding readTables headCounts

@@ -14,6 +14,7 @@ use Rattle.script.specs.declared.Counts.{Counts}
 use Rattle.script.specs.declared.Refusal as Told
 use Rattle.script.specs.Tables.{Tables, tablesRefusal, roomRefusal, writtenOutput}
 use Rattle.script.specs.Replies.{writing}
+use Rattle.script.proofs.ReplyLaws.{written-answer}
 use Rattle.script.specs.declared.Writing.{Writing}
 use Rattle.script.specs.declared.Writing.the-variants.{Written, Refused}
 use Rattle.printer.specs.Places.{Put, Placed, most}
@@ -83,8 +84,8 @@ module _ {n : Counts} {t : Tables} {x y : List ℕ} {at from : ℕ} {r : Writing
           Put (tablesText n t) (take (length x - from) (drop from x)) y k
       put passed room =
           let e = no-refusal n t (take (length x - from) (drop from x)) passed (rest-room at from (tablesText n t) x f room) in
-          let g : r ≡ Written (length (tablesText n t)) = rw e at (l .reply) in
-          let o : y ≡ writtenOutput none (tablesText n t) (take (length x - from) (drop from x)) = rw e at (l .output) in
+          let g : r ≡ Written (length (tablesText n t)) = rw e at (written-answer (l .text)) in
+          let o : y ≡ writtenOutput none (tablesText n t) (take (length x - from) (drop from x)) = rw e at (l .text .output) in
           record { counted = cc; stands = λ h. o }
 
   pub lists-never : {g : Told.Refusal} {z : List ℕ} {e : ℕ} → r ≡ Refused g → ListsAt n t at x z e
@@ -93,7 +94,7 @@ module _ {n : Counts} {t : Tables} {x y : List ℕ} {at from : ℕ} {r : Writing
       record {
         lists = λ passed room.
             let e = no-refusal n t (take (length x - from) (drop from x)) passed (rest-room at from (tablesText n t) x f room) in
-            let g : r ≡ Written (length (tablesText n t)) = rw e at (l .reply) in
+            let g : r ≡ Written (length (tablesText n t)) = rw e at (written-answer (l .text)) in
             let w : _≡_ {A = ℕ} 0 1 = cc in
             let v : ⊥ = omega arith in
             absurd v;

@@ -6,15 +6,13 @@ use mathlib.Core.Bool.{Bool}
 use mathlib.Core.List.{List}
 use mathlib.Core.Option.{Option, none, some}
 use lib.IntN.{ℤ}
+use lib.ListN.{length}
 use Rattle.lambdamix.specs.Checker.{Refusal}
 use Rattle.script.specs.declared.Counts as Script
-use Rattle.script.specs.declared.Reading.{Reading}
-use Rattle.script.specs.declared.Reading.the-variants as Reading
-use Rattle.script.specs.declared.Writing.{Writing}
-use Rattle.script.specs.declared.Writing.the-variants as Writing
 use Rattle.script.specs.File.{fileBytes}
 use Rattle.script.specs.Tables.{Tables, tablesScript, readRefusal, readTables, writeRefusal, writtenOutput}
-use Rattle.script.specs.Replies.{reading, writing}
+use Rattle.script.specs.Widths.{LentTables}
+use Rattle.script.specs.Replies.{Reply, replying, headCounts}
 use Rattle.annotation.specs.Checks.{checkRefusal}
 use Rattle.residual.specs.AfterRun as AfterRun
 use Rattle.residual.specs.AfterRun.{made, unmade}
@@ -30,22 +28,24 @@ use Rattle.scriptmaker.specs.declared.MakeReply.{MakeReply}
 abbrev pub countsOf : Counts → Script.Counts
 countsOf n = record { types = n .types; inputs = n .inputs; nodes = n .nodes }
 
--- the reader's answer; a refusal has counts of 0
-unfoldable pub readReply : Reading → ReadReply
-readReply (Reading.Read n) =
-    record { number = 0; place = 0; counts = record { types = n .types; inputs = n .inputs; nodes = n .nodes } }
-readReply (Reading.Refused f) =
-    record { number = f .number; place = f .place; counts = record { types = 0; inputs = 0; nodes = 0 } }
+-- what a refusal carries is written as zeros
+unfoldable pub countsIn : Option Script.Counts → Counts
+countsIn none = record { types = 0; inputs = 0; nodes = 0 }
+countsIn (some n) = record { types = n .types; inputs = n .inputs; nodes = n .nodes }
 
--- the answer of writer and listing; a refusal has length 0
-unfoldable pub writeReply : Writing → WriteReply
-writeReply (Writing.Written k) = record { number = 0; place = 0; length = k }
-writeReply (Writing.Refused f) = record { number = f .number; place = f .place; length = 0 }
+unfoldable pub lengthIn : Option ℕ → ℕ
+lengthIn none = 0
+lengthIn (some k) = k
 
--- the checker's answer
-unfoldable pub checkReply : Option Refusal → CheckReply
-checkReply none = record { number = 0; place = 0 }
-checkReply (some f) = record { number = f .number; place = f .place }
+-- number, place and values of a reply, in the struct of the reader, of writer and listing, and of the checker
+unfoldable pub readReply : Reply Script.Counts → ReadReply
+readReply r = record { number = r .number; place = r .place; counts = countsIn (r .carried) }
+
+unfoldable pub writeReply : Reply ℕ → WriteReply
+writeReply r = record { number = r .number; place = r .place; length = lengthIn (r .carried) }
+
+unfoldable pub checkReply : Reply (Unit {0}) → CheckReply
+checkReply r = record { number = r .number; place = r .place }
 
 -- the maker's answer; without code there are 0 nodes
 unfoldable pub makeReply : AfterRun.Reply → MakeReply
@@ -54,27 +54,29 @@ makeReply (unmade f k) = record { number = f .number; place = f .place; steps = 
 
 -- reading: the reply, and the tables after it
 pub record Reads (bs : List ℕ) (before after : Tables) (r : ReadReply) : Type 0 where
-  pub reply : r ≡ readReply (reading (readRefusal bs before) bs)
+  pub reply : r ≡ readReply (replying (readRefusal bs before) (headCounts bs))
   pub tables : after ≡ readTables (readRefusal bs before) bs before
 
 -- a text that is written or refused: the reply, and the output after it
 pub record WritesText (f : Option Refusal) (text before after : List ℕ) (r : WriteReply) : Type 0 where
-  pub reply : r ≡ writeReply (writing f text)
+  pub reply : r ≡ writeReply (replying f (length text))
   pub output : after ≡ writtenOutput f text before
 
--- writing
-abbrev pub Writes : Counts → Tables → List ℕ → List ℕ → WriteReply → Type 0
-Writes n x before after r =
-    WritesText (writeRefusal (n .types) (n .inputs) (n .nodes) x before) (fileBytes (tablesScript (n .types) (n .inputs) (n .nodes) x))
-    before after r
+-- writing; what was lent has its columns' widths
+pub record Writes (n : Counts) (x : Tables) (before after : List ℕ) (r : WriteReply) : Type 0 where
+  pub text :
+      WritesText (writeRefusal (n .types) (n .inputs) (n .nodes) x before)
+      (fileBytes (tablesScript (n .types) (n .inputs) (n .nodes) x)) before after r
+  pub lent : LentTables (n .types) (n .inputs) (n .nodes) x
 
--- listing
-abbrev pub Lists : Counts → Tables → List ℕ → List ℕ → WriteReply → Type 0
-Lists n x before after r = WritesText (listRefusal (countsOf n) x before) (tablesText (countsOf n) x) before after r
+-- listing, likewise
+pub record Lists (n : Counts) (x : Tables) (before after : List ℕ) (r : WriteReply) : Type 0 where
+  pub text : WritesText (listRefusal (countsOf n) x before) (tablesText (countsOf n) x) before after r
+  pub lent : LentTables (n .types) (n .inputs) (n .nodes) x
 
 -- checking: the reply
 pub record Checks (n : Counts) (x : Tables) (r : CheckReply) : Type 0 where
-  pub reply : r ≡ checkReply (checkRefusal (n .types) (n .inputs) (n .nodes) x)
+  pub reply : r ≡ checkReply (replying (checkRefusal (n .types) (n .inputs) (n .nodes) x) tt)
 
 -- making, or the bare run: the reply, the output after it, the stores after it, and that a run was given numbers of 32 bits
 pub record Makes

@@ -5,12 +5,12 @@ use crate::counted;
 use annotation::check::check;
 use script::Verdict;
 ghost use mathlib.Core.Path.{_≡_};
-ghost use Rattle.script.specs.Replies.{refusalOf};
+ghost use Rattle.script.specs.Replies.{verdictReply};
 ghost use Rattle.script.specs.Tables.{tablesOf};
 ghost use Rattle.scriptmaker.specs.Calls.{checkReply, Checks};
 
 fn reply(v: Verdict) -> CheckReply
-    ensures { λ q. ⌜ q ≡ checkReply (refusalOf v) ⌝ }
+    ensures { λ q. ⌜ q ≡ checkReply (verdictReply v) ⌝ }
 {
     match v {
         Verdict::Passed => CheckReply {

@@ -4,11 +4,12 @@ use crate::ReadReply;
 use file::reader::read;
 use script::Reading;
 ghost use mathlib.Core.Path.{_≡_};
+ghost use Rattle.script.specs.Replies.{readingReply};
 ghost use Rattle.script.specs.Tables.{tablesOf};
 ghost use Rattle.scriptmaker.specs.Calls.{readReply, Reads};
 
 fn reply(r: Reading) -> ReadReply
-    ensures { λ q. ⌜ q ≡ readReply r ⌝ }
+    ensures { λ q. ⌜ q ≡ readReply (readingReply r) ⌝ }
 {
     match r {
         Reading::Read(n) => ReadReply {

@@ -5,11 +5,12 @@ use crate::counted;
 use file::writer::write;
 use script::Writing;
 ghost use mathlib.Core.Path.{_≡_};
+ghost use Rattle.script.specs.Replies.{writingReply};
 ghost use Rattle.script.specs.Tables.{tablesOf};
 ghost use Rattle.scriptmaker.specs.Calls.{writeReply, Writes};
 
 pub(crate) fn reply(r: Writing) -> WriteReply
-    ensures { λ q. ⌜ q ≡ writeReply r ⌝ }
+    ensures { λ q. ⌜ q ≡ writeReply (writingReply r) ⌝ }
 {
     match r {
         Writing::Written(k) => WriteReply {

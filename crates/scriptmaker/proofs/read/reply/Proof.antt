@@ -1,15 +1,16 @@
 -- `scriptmaker::read::reply` meets its contract, case by case. Assumes nothing.
 use borrow.Author.Needs.{needs}
-use Rattle.scriptmaker.specs.Calls.{readReply}
+use Rattle.script.specs.Replies.{readingReply}
+use Rattle.scriptmaker.specs.Calls.{readReply, countsIn}
 use Rattle.scriptmaker.proofs.read.reply.Statement.{statement}
 use Rattle.scriptmaker.proofs.read.reply.Tie as tie
 
 returns : tie.Need-returns
-unfolding readReply
+unfolding readReply countsIn readingReply
 returns c = rw (c .before .r .given .1)
 
 returns-2 : tie.Need-returns-2
-unfolding readReply
+unfolding readReply countsIn readingReply
 returns-2 c = rw (c .before .r2 .given .1)
 
 pub reply-spec : {M : Type 1} → statement M

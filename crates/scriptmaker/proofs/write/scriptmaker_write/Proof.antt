@@ -5,7 +5,7 @@ use Rattle.scriptmaker.proofs.write.scriptmaker_write.Statement.{statem
 use Rattle.scriptmaker.proofs.write.scriptmaker_write.Tie as tie
 
 returns : tie.Need-returns
-returns c = writes (rw (c .before .before .before .before .before .counted .ensures) at (c .before .before .before .write .ensures)) (c .reply .ensures)
+returns c = writes (c .before .before .before .before .before .counted .ensures) (c .before .before .before .write .ensures) (c .reply .ensures)
 
 pub scriptmaker-write-spec : {M : Type 1} → statement M
 scriptmaker-write-spec = tie.close (tie.spec (λ c κs. search needs) (λ c κs. search needs) (λ c κs. search needs) (λ c. search needs) returns)
