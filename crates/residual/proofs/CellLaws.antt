@@ -2,7 +2,6 @@
 -- tree, its own node first and then its pieces. Assumes nothing.
 use Prim.Native.Nat.{ℕ, zero, suc, _+_, _-_, _/_, _%_, _≤_, _<_}
 use mathlib.Core.Path.{_≡_, refl, sym, ap, _∙_}
-use mathlib.Core.Logic.{_⊎_, inl, inr}
 use mathlib.Core.Bool.{Bool, true, false, _&&_}
 use mathlib.Core.List.{List}
 use mathlib.Core.Option.{Option, none, some}
@@ -13,14 +12,19 @@ use lib.ListN.{length, getD, List·getD-eq-default}
 use lib.Dec.{leb, leb·suc-zero, leb·suc-suc}
 use borrow.Author.Tests.{le-leb}
 use Rattle.lambdamix.specs.declared.Operator.the-variants.{Add}
+use Rattle.lambdamix.specs.declared.Use.{Use}
+use Rattle.lambdamix.specs.declared.Use.the-variants.{Child}
 use Rattle.lambdamix.specs.Limits.{maxNodes, maxHeight}
 use Rattle.lambdamix.specs.Arithmetic.{operators}
-use Rattle.lambdamix.specs.Term.{applying, fixing, choosing, operating, operatorOf}
+use Rattle.lambdamix.specs.Term.{operatorOf}
 use Rattle.lambdamix.specs.Code.{Code, Codes, lit, ref, fn, form, nilC, consC, operatorNumber}
 use Rattle.lambdamix.proofs.Falling.{falling-step, below-at, below-out}
 use Rattle.script.specs.Bytes.{signedBy, signed32}
+use Rattle.script.specs.declared.Row.{Row}
+use Rattle.script.specs.KindRows.{rowAt}
 use Rattle.script.specs.Words.{wordValue, wordKind, wordA, wordB, wordC}
-use Rattle.residual.specs.Cells.{constant, sortOf, two, twoPieces, threePieces, codeBy, codeStep, codeAt, codeBelow, spendBy, spendLeaf, spend, spendAll, spendOne, pieces, roomOf, Spends, SpendsUnder}
+use Rattle.residual.specs.Cells.{constant, sortOf, two, codeBy, codeStep, codeAt, codeBelow, pieceBy, rowPieces, spendBy, spendLeaf, spend, spendAll, spendOne, pieces, roomOf, Spends, SpendsUnder, SpendsAll}
+use Rattle.residual.proofs.Rows.{by-piece, HasRow, ByRow, kind-row}
 
 pub past-operators : (f : ℕ) → 6 ≤ f → 0 ≡ operatorNumber (operatorOf f)
 unfolding operatorOf operatorNumber
@@ -40,24 +44,26 @@ pub below-none : (xs : List ℕ) (p q : ℕ) → p ≤ q → codeBelow xs p q �
 unfolding codeBelow
 below-none xs p q h = below-out p (lit (pos 0)) (codeAt xs) q h
 
--- any other kind than those of code with fields
-other-kind :
-    (k : ℕ) → (k ≡ 1 → ⊥) → (k ≡ 8 → ⊥) → ((k ≡ 9) ⊎ (k ≡ 12) → ⊥) → (k ≡ 10 → ⊥) → (k ≡ 11 → ⊥) → sortOf k ≡ constant
+-- any other kind than those of code with a row, as a match on these leaves it
+abbrev pub Other : Type 0 → ℕ → Type 0
+Other N k = (((((N × (k ≡ 1 → ⊥)) × (k ≡ 8 → ⊥)) × (k ≡ 9 → ⊥)) × (k ≡ 10 → ⊥)) × (k ≡ 11 → ⊥)) × (k ≡ 12 → ⊥)
+
+other-kind : {N : Type 0} (k : ℕ) → Other N k → sortOf k ≡ constant
 unfolding sortOf
-other-kind zero f g h i j = refl
-other-kind (suc zero) f g h i j = absurd (f refl)
-other-kind (suc (suc zero)) f g h i j = refl
-other-kind (suc (suc (suc zero))) f g h i j = refl
-other-kind (suc (suc (suc (suc zero)))) f g h i j = refl
-other-kind (suc (suc (suc (suc (suc zero))))) f g h i j = refl
-other-kind (suc (suc (suc (suc (suc (suc zero)))))) f g h i j = refl
-other-kind (suc (suc (suc (suc (suc (suc (suc zero))))))) f g h i j = refl
-other-kind (suc (suc (suc (suc (suc (suc (suc (suc zero)))))))) f g h i j = absurd (g refl)
-other-kind (suc (suc (suc (suc (suc (suc (suc (suc (suc zero))))))))) f g h i j = absurd (h (inl refl))
-other-kind (suc (suc (suc (suc (suc (suc (suc (suc (suc (suc zero)))))))))) f g h i j = absurd (i refl)
-other-kind (suc (suc (suc (suc (suc (suc (suc (suc (suc (suc (suc zero))))))))))) f g h i j = absurd (j refl)
-other-kind (suc (suc (suc (suc (suc (suc (suc (suc (suc (suc (suc (suc zero)))))))))))) f g h i j = absurd (h (inr refl))
-other-kind (suc (suc (suc (suc (suc (suc (suc (suc (suc (suc (suc (suc (suc k))))))))))))) f g h i j = refl
+other-kind zero r = refl
+other-kind (suc zero) r = absurd (r .0 .0 .0 .0 .0 .1 refl)
+other-kind (suc (suc zero)) r = refl
+other-kind (suc (suc (suc zero))) r = refl
+other-kind (suc (suc (suc (suc zero)))) r = refl
+other-kind (suc (suc (suc (suc (suc zero))))) r = refl
+other-kind (suc (suc (suc (suc (suc (suc zero)))))) r = refl
+other-kind (suc (suc (suc (suc (suc (suc (suc zero))))))) r = refl
+other-kind (suc (suc (suc (suc (suc (suc (suc (suc zero)))))))) r = absurd (r .0 .0 .0 .0 .1 refl)
+other-kind (suc (suc (suc (suc (suc (suc (suc (suc (suc zero))))))))) r = absurd (r .0 .0 .0 .1 refl)
+other-kind (suc (suc (suc (suc (suc (suc (suc (suc (suc (suc zero)))))))))) r = absurd (r .0 .0 .1 refl)
+other-kind (suc (suc (suc (suc (suc (suc (suc (suc (suc (suc (suc zero))))))))))) r = absurd (r .0 .1 refl)
+other-kind (suc (suc (suc (suc (suc (suc (suc (suc (suc (suc (suc (suc zero)))))))))))) r = absurd (r .1 refl)
+other-kind (suc (suc (suc (suc (suc (suc (suc (suc (suc (suc (suc (suc (suc k))))))))))))) r = refl
 
 -- the cell x of kind k stands at p
 pub record Cell (xs : List ℕ) (p x k : ℕ) : Type 0 where
@@ -70,36 +76,19 @@ pub record Read (xs : List ℕ) (p : ℕ) (c : Code) : Type 0 where
 
 -- The code at a place, by the kind of its cell.
 module _ {xs : List ℕ} {p x k : ℕ} (s : Cell xs p x k) where
-  by-kind : {j : ℕ} → k ≡ j → codeAt xs p ≡ codeBy (sortOf j) (codeBelow xs p) x
+  pub by-kind : {j : ℕ} → k ≡ j → codeAt xs p ≡ codeBy (sortOf j) (codeBelow xs p) x
   by-kind g = code-step xs p ∙ rw (← s .word, ← s .kind, g)
 
   pub is-variable : k ≡ 1 → Read xs p (ref (wordA x))
   unfolding sortOf codeBy
   is-variable g = record { code = by-kind g }
 
-  pub is-function : k ≡ 8 → Read xs p (fn (wordA x) (codeBelow xs p (wordC x)))
-  unfolding sortOf codeBy
-  is-function g = record { code = by-kind g }
+  pub is-row : {j : ℕ} {r : Row} → HasRow j → k ≡ j → r ≡ rowAt j → ByRow (codeAt xs p) j r (codeBelow xs p) x
+  is-row h g e = rw (by-kind g, e) (kind-row h (codeBelow xs p) x)
 
-  pub is-single : k ≡ 10 → Read xs p (form fixing (consC (codeBelow xs p (wordA x)) nilC))
-  unfolding sortOf codeBy
-  is-single g = record { code = by-kind g }
-
-  pub is-triple : k ≡ 11 → Read xs p (form choosing (threePieces (codeBelow xs p) x))
-  unfolding sortOf codeBy
-  is-triple g = record { code = by-kind g }
-
-  pub is-pair : k ≡ 9 → Read xs p (form applying (twoPieces (codeBelow xs p) x))
-  unfolding sortOf codeBy
-  is-pair g = record { code = by-kind g }
-
-  pub is-operation : k ≡ 12 → Read xs p (form (operating (operatorOf (wordC x))) (twoPieces (codeBelow xs p) x))
-  unfolding sortOf codeBy
-  is-operation g = record { code = by-kind g }
-
-  pub is-constant : (k ≡ 1 → ⊥) → (k ≡ 8 → ⊥) → ((k ≡ 9) ⊎ (k ≡ 12) → ⊥) → (k ≡ 10 → ⊥) → (k ≡ 11 → ⊥) → Read xs p (lit (wordValue x))
+  pub is-constant : {N : Type 0} → Other N k → Read xs p (lit (wordValue x))
   unfolding codeBy
-  is-constant a b c d e = record { code = by-kind refl ∙ rw (other-kind k a b c d e) }
+  is-constant r = record { code = by-kind refl ∙ rw (other-kind k r) }
 
 zero-value : wordValue 0 ≡ pos 0
 unfolding wordValue signed32 signedBy
@@ -269,40 +258,54 @@ module _ {xs : List ℕ} {p q room low : ℕ} where
         let e : low - 1 + 1 ≡ low = omega (arith, f) in
         record { left = rw e at (s .left) ∙ sym (code-spent (codeBelow xs p q) room low ∙ rw (below-there xs p q l)) }
 
--- the same piece once more
-pub spends-again :
-    {xs : List ℕ} {p q i room low m r : ℕ} → q ≡ i → Spends xs p q room low m →
-    ((c : Code) (h : ℕ) → roomOf m ≡ spendOne c (roomOf room) h → roomOf r ≡ spendOne c (roomOf m) h) → Spends xs p i m low r
-spends-again e s f = record { left = rw (← e) (f _ _ (s .left)) }
-
 -- what is under a node: pieces one after the other
-pub record SpendsAll (cs : Codes) (room low r : ℕ) : Type 0 where
-  pub left : roomOf r ≡ spendAll cs (roomOf room) (low + 1)
-
 pub under-code : {xs : List ℕ} {p room low r : ℕ} {c : Code} → Read xs p c → SpendsAll (pieces c) room low r → SpendsUnder xs p room low r
 under-code e s = record { left = rw (e .code) (s .left) }
 
--- both kinds of cells over two pieces
-pub under-two :
-    {xs : List ℕ} {p x k room low r : ℕ} → Cell xs p x k → (k ≡ 9) ⊎ (k ≡ 12) →
-    SpendsAll (twoPieces (codeBelow xs p) x) room low r → SpendsUnder xs p room low r
-under-two s (inl g) = under-code (is-pair s g)
-under-two s (inr g) = under-code (is-operation s g)
-
-pub all-nil : {room low : ℕ} → SpendsAll nilC room low room
-unfolding spend
-all-nil = record { left = refl }
+pub under-row :
+    {xs : List ℕ} {p x j room low r : ℕ} {w : Row} → ByRow (codeAt xs p) j w (codeBelow xs p) x →
+    SpendsAll (rowPieces w (codeBelow xs p) x) room low r → SpendsUnder xs p room low r
+under-row b s = record { left = rw (b .pieces) (s .left) }
 
 pub all-node : {room low r : ℕ} → roomOf r ≡ spendOne (ref 0) (roomOf room) 1 → SpendsAll (consC (ref 0) nilC) room low r
 all-node {room} {low} s = record { left = s ∙ node-spent room 0 ∙ sym (rw (add-one low) (node-spent room low)) }
 
-module _ {xs : List ℕ} {p q i room low : ℕ} (e : q ≡ i) where
-  pub all-one : {r : ℕ} → Spends xs p q room low r → SpendsAll (consC (codeBelow xs p i) nilC) room low r
-  all-one s = record { left = s .left ∙ rw e }
+-- a field that holds no piece, and one that does
+pub all-plain : {cs : Codes} {room low : ℕ} → cs ≡ nilC → SpendsAll cs room low room
+unfolding spend
+all-plain e = rw e (record { left = refl })
 
-  pub all-more : {m r : ℕ} {cs : Codes} → Spends xs p q room low m → SpendsAll cs m low r → SpendsAll (consC (codeBelow xs p i) cs) room low r
-  all-more {cs = cs} a s =
-      record { left = s .left ∙ rw (spend-more (codeBelow xs p i) cs (roomOf room) (low + 1), a .left, e) }
+pub child-left : {v : Use} (c : Code) {room low r : ℕ} → v ≡ Child → SpendsAll (pieceBy v c nilC) room low r → roomOf r ≡ spendOne c (roomOf room) (low + 1)
+unfolding pieceBy
+child-left c e s = rw e at (s .left)
+
+module _ {u : Use} (e : u ≡ Child) where
+  pub all-child : {xs : List ℕ} {p q room low r : ℕ} → Spends xs p q room low r → SpendsAll (pieceBy u (codeBelow xs p q) nilC) room low r
+  unfolding pieceBy
+  all-child s = rw e (record { left = s .left })
+
+  -- the piece of the field before once more
+  pub all-again :
+      (self : ℕ → Code) {v : Use} {q i room low m r : ℕ} → v ≡ Child → q ≡ i → SpendsAll (pieceBy v (self q) nilC) room low m →
+      ((c : Code) (h : ℕ) → roomOf m ≡ spendOne c (roomOf room) h → roomOf r ≡ spendOne c (roomOf m) h) →
+      SpendsAll (pieceBy u (self i) nilC) m low r
+  unfolding pieceBy
+  all-again self {q = q} f g s a = rw (e, ← g) (record { left = a _ _ (child-left (self q) f s) })
+
+-- a field, and others behind it
+pub all-more :
+    (self : ℕ → Code) (u : Use) {q i room low m r : ℕ} {cs : Codes} → q ≡ i → SpendsAll (pieceBy u (self q) nilC) room low m →
+    SpendsAll cs m low r → SpendsAll (pieceBy u (self i) cs) room low r
+unfolding spend
+all-more self u {q} {room = room} {low} {cs = cs} e a s =
+    rw (← e)
+    (record {
+      left =
+          s .left
+          ∙ ap (λ (o : Option ℕ). spendAll cs o (low + 1)) (a .left)
+          ∙ by-piece u (self q) (λ f. spendAll cs (spendAll (f nilC) (roomOf room) (low + 1)) (low + 1) ≡ spendAll (f cs) (roomOf room) (low + 1)) refl
+          (sym (spend-more (self q) cs (roomOf room) (low + 1)));
+    })
 
 -- ---- the code at a place, out of the most nodes and the greatest height
 

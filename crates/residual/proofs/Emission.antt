@@ -1,28 +1,28 @@
 -- Written nodes, one piece behind the other, and the node over them: what the code puts for a cell is its tree's nodes. Assumes
 -- nothing.
 use Prim.Native.Nat.{ℕ, suc, _+_, _*_, _≤_, _<_}
-use mathlib.Core.Path.{_≡_, refl, sym, ap, ap₂, _∙_}
-use mathlib.Core.Logic.{_⊎_, inl, inr}
+use mathlib.Core.Path.{_≡_, refl, sym, ap, _∙_}
 use mathlib.Core.List.{List, [], _∷_, _++_, append-nil}
 use native.Mathlib.Numerals.{add-one}
 use native.Mathlib.Omega.{arith}
 use lib.IntN.{ℤ, pos}
-use lib.ListN.{length, getD}
-use lib.Dec.{eqb}
+use lib.ListN.{length}
+use Rattle.lambdamix.specs.declared.Use.{Use}
+use Rattle.lambdamix.specs.declared.Use.the-variants.{Child}
 use Rattle.lambdamix.specs.Limits.{maxNodes}
 use Rattle.lambdamix.specs.Script.{Node}
-use Rattle.lambdamix.specs.Term.{Former, fixing}
-use Rattle.lambdamix.specs.Code.{Code, Codes, lit, ref, fn, form, nilC, consC, node, formNode, top, after, tops, nodesFrom, allNodesFrom}
-use Rattle.lambdamix.proofs.WrittenTree.{top-last, after-last}
+use Rattle.lambdamix.specs.Code.{Code, Codes, lit, ref, nilC, node, top, after, nodesFrom, allNodesFrom}
+use Rattle.lambdamix.proofs.WrittenTree.{after-last}
 use Rattle.script.specs.File.{nodeBytes, records}
-use Rattle.script.specs.Words.{wordKind, wordC}
+use Rattle.script.specs.declared.Row.{Row}
+use Rattle.script.specs.Words.{wordA, wordB, wordC}
 use Rattle.file.specs.Written.{Put, PutWhole}
 use Rattle.file.proofs.RecordLaws.{records-length}
 use Rattle.file.proofs.Layouts.{nodeLayout, node-sized}
 use Rattle.file.proofs.WritingLaws.{put-there, put-both, put-length, put-same, records-append}
-use Rattle.residual.specs.Cells.{twoPieces, threePieces, codeAt, codeBelow}
-use Rattle.residual.specs.Answers.{Emits, EmitsOver, lastField, twoNode, threeNode}
-use Rattle.residual.proofs.CellLaws.{Cell, is-pair, is-operation, is-triple}
+use Rattle.residual.specs.Cells.{pieceBy, rowPieces}
+use Rattle.residual.specs.Answers.{Emits, EmitsAll, EmitsOver, EmitsField, fieldBy, rowNode}
+use Rattle.residual.proofs.Rows.{by-piece, plain, ByRow}
 
 -- ---- bytes
 
@@ -70,118 +70,127 @@ module _ {c : Code} {z : ℤ} (e : c ≡ lit z) where
   pub emits-constant : {y : ℤ} {base k r : ℕ} {l m : List ℕ} → y ≡ z → Emits (lit y) base k l m r → Emits c base k l m r
   emits-constant f p = rw (e, ← f) p
 
--- ---- pieces
-
--- pieces are put from number k on; n is the next number, and is are the numbers of their last nodes
-pub record EmitsAll (cs : Codes) (base k : ℕ) (before after′ : List ℕ) (n : ℕ) (is : List ℕ) : Type 0 where
-  pub next : n ≡ after k cs
-  pub lasts : is ≡ tops k cs
-  pub put : base + 13 * n ≤ length before → Put before (base + 13 * k) (records nodeBytes (allNodesFrom k cs)) after′
-
-pub emits-none : {base k : ℕ} {l : List ℕ} → EmitsAll nilC base k l l k []
-unfolding top tops nodesFrom records
-emits-none = record { next = refl; lasts = refl; put = λ f. record { puts = refl } }
-
-pub emits-more :
-    (self : ℕ → Code) {q i : ℕ} {cs : Codes} {base k r n : ℕ} {l m m′ is : List ℕ} → q ≡ i → Emits (self q) base k l m r →
-    EmitsAll cs base (r + 1) m m′ n is → EmitsAll (consC (self i) cs) base k l m′ n (r ∷ is)
-unfolding top tops nodesFrom
-emits-more self {q} {cs = cs} {base} {k} {r} e a s =
-    let c = self q in
-    let step : r + 1 ≡ suc (top k c) = add-one r ∙ ap suc (a .number) in
-    rw (← e)
+-- a variable's node
+pub emits-variable :
+    {c : Code} {f x base k : ℕ} {l m : List ℕ} → c ≡ ref x → f ≡ x → top k c < maxNodes →
+    PutWhole l (base + 13 * k) (nodeBytes (node 1 f 0 0 (pos 0))) m → Emits c base k l m k
+unfolding top nodesFrom
+emits-variable {f = f} e g h p =
+    rw (e, ← g)
     (record {
-      next = s .next ∙ ap (λ (j : ℕ). after j cs) step;
-      lasts = ap₂ _∷_ (a .number) (s .lasts ∙ ap (λ (j : ℕ). tops j cs) step);
-      put =
-          λ f.
-          let p = a .put (omega (arith, s .next, after-last cs (r + 1))) in
-          put-same
-          (ap (λ (j : ℕ). records nodeBytes (nodesFrom k c) ++ records nodeBytes (allNodesFrom j cs)) step
-          ∙ sym (records-append nodeBytes (nodesFrom k c) (allNodesFrom (suc (top k c)) cs)))
-          (put-nodes base k (nodesFrom k c) p (step ∙ top-last c k) (s .put (omega (arith, put-length p))));
+      number = refl;
+      low = rw e at h;
+      put = λ y. put-same (sym (one-record (node 1 f 0 0 (pos 0)))) (put-node (node 1 f 0 0 (pos 0)) y p);
     })
 
--- where the last node's number is low, so are the pieces'
-module _ (self : ℕ → Code) (k : ℕ) {q i : ℕ} (cs : Codes) (e : q ≡ i) (h : after k (consC (self i) cs) < maxNodes) where
-  pub low-first : top k (self q) < maxNodes
-  unfolding top
-  low-first = rw e (omega (arith, after-last cs (suc (top k (self i)))))
+-- ---- fields
 
-  pub low-rest : {r : ℕ} → r ≡ top k (self q) → after (r + 1) cs < maxNodes
-  unfolding top
-  low-rest {r} f = rw (add-one r, f, e) h
+after-piece : (u : Use) (c : Code) (cs : Codes) (k : ℕ) → after k (pieceBy u c cs) ≡ after (after k (pieceBy u c nilC)) cs
+unfolding top
+after-piece u c cs k = by-piece u c (λ f. after k (f cs) ≡ after (after k (f nilC)) cs) refl refl
+
+nodes-piece :
+    (u : Use) (c : Code) (cs : Codes) (k : ℕ) →
+    allNodesFrom k (pieceBy u c nilC) ++ allNodesFrom (after k (pieceBy u c nilC)) cs ≡ allNodesFrom k (pieceBy u c cs)
+unfolding top nodesFrom
+nodes-piece u c cs k =
+    by-piece u c (λ f. allNodesFrom k (f nilC) ++ allNodesFrom (after k (f nilC)) cs ≡ allNodesFrom k (f cs)) refl (simp append-nil)
+
+pub emits-none : {base k : ℕ} {l : List ℕ} → EmitsAll nilC base k l l k
+unfolding top nodesFrom records
+emits-none = record { next = refl; put = λ f. record { puts = refl } }
+
+-- a field that holds no piece, and one that does
+pub emits-plain : {u : Use} {c : Code} {f base k v : ℕ} {l : List ℕ} → (u ≡ Child → ⊥) → v ≡ fieldBy u f 0 → EmitsField u c f base k l l v k
+emits-plain {u} {c} {f} {k = k} h e = record { value = e ∙ plain u c nilC f (top k c) h .1; pieces = rw (plain u c nilC f 0 h .0) emits-none }
+
+module _ {u : Use} (c : Code) (e : u ≡ Child) where
+  pub child-low : (k : ℕ) → after k (pieceBy u c nilC) < maxNodes → top k c < maxNodes
+  unfolding pieceBy top
+  child-low k h = omega (arith, rw e at h)
+
+  pub emits-child : {f base k r : ℕ} {l m : List ℕ} → Emits c base k l m r → EmitsField u c f base k l m r (r + 1)
+  unfolding pieceBy fieldBy top nodesFrom
+  emits-child {k = k} {r} a =
+      rw e
+      (record {
+        value = a .number;
+        pieces =
+            record {
+              next = add-one r ∙ ap suc (a .number);
+              put = λ f. put-same (ap (records nodeBytes) (sym (append-nil (nodesFrom k c)))) (a .put (omega arith));
+            };
+      })
+
+-- a field, and others behind it
+module _ (self : ℕ → Code) (u : Use) (cs : Codes) {q i : ℕ} (e : q ≡ i) where
+  pub emits-more :
+      {base k n n′ : ℕ} {l m m′ : List ℕ} → EmitsAll (pieceBy u (self q) nilC) base k l m n → EmitsAll cs base n m m′ n′ →
+      EmitsAll (pieceBy u (self i) cs) base k l m′ n′
+  emits-more {base} {k} {n} a s =
+      let c = self q in
+      let one = pieceBy u c nilC in
+      rw (← e)
+      (record {
+        next = s .next ∙ ap (λ (j : ℕ). after j cs) (a .next) ∙ sym (after-piece u c cs k);
+        put =
+            λ f.
+            let p = a .put (omega (arith, s .next, after-last cs n)) in
+            put-same
+            (ap (λ (j : ℕ). records nodeBytes (allNodesFrom k one) ++ records nodeBytes (allNodesFrom j cs)) (a .next)
+            ∙ sym (records-append nodeBytes (allNodesFrom k one) (allNodesFrom (after k one) cs))
+            ∙ ap (records nodeBytes) (nodes-piece u c cs k))
+            (put-nodes base k (allNodesFrom k one) p (a .next ∙ after-last one k) (s .put (omega (arith, put-length p))));
+      })
+
+  -- where the last node's number is low, so are those before it
+  module _ (k : ℕ) (h : after k (pieceBy u (self i) cs) < maxNodes) where
+    pub low-first : after k (pieceBy u (self q) nilC) < maxNodes
+    low-first = rw e (omega (arith, after-piece u (self i) cs k, after-last cs (after k (pieceBy u (self i) nilC))))
+
+    pub low-rest : {n : ℕ} → n ≡ after k (pieceBy u (self q) nilC) → after n cs < maxNodes
+    low-rest f = rw (f, e) (omega (arith, after-piece u (self i) cs k))
 
 -- ---- a node over pieces
 
-pub emits-over :
-    {cs : Codes} {over : List ℕ → Node} {base k n : ℕ} {l m m′ is : List ℕ} → EmitsAll cs base k l m n is →
-    PutWhole m (base + 13 * n) (nodeBytes (over is)) m′ → EmitsOver cs over base k l m′ n
-emits-over {cs} {over} {base} {k} {is = is} s p =
+emits-over :
+    {cs : Codes} (over : Node) {base k n : ℕ} {l m m′ : List ℕ} → EmitsAll cs base k l m n →
+    PutWhole m (base + 13 * n) (nodeBytes over) m′ → EmitsOver cs over base k l m′ n
+emits-over {cs} over {base} {k} s p =
     record {
       number = s .next;
       put =
           λ f.
           let q = s .put (omega arith) in
-          put-same
-          (ap (λ (is : List ℕ). records nodeBytes (allNodesFrom k cs) ++ nodeBytes (over is)) (s .lasts)
-          ∙ records-last (allNodesFrom k cs) (over (tops k cs)))
-          (put-nodes base k (allNodesFrom k cs) q (s .next ∙ after-last cs k) (put-node (over is) (omega (arith, put-length q)) p));
+          put-same (records-last (allNodesFrom k cs) over)
+          (put-nodes base k (allNodesFrom k cs) q (s .next ∙ after-last cs k) (put-node over (omega (arith, put-length q)) p));
     }
 
--- code is written as these pieces and this node over them
-pub record Over (c : Code) (cs : Codes) (over : List ℕ → Node) : Type 0 where
-  pub number : (k : ℕ) → top k c ≡ after k cs
-  pub nodes : (k : ℕ) → nodesFrom k c ≡ allNodesFrom k cs ++ (over (tops k cs) ∷ [])
+-- the fields of a cell x one after the other, and the node over them
+pub emits-fields :
+    (self : ℕ → Code) (j x : ℕ) (r : Row) {f g h base k n n′ n″ v v′ v″ : ℕ} {l m m′ m″ out : List ℕ} →
+    f ≡ wordA x → g ≡ wordB x → h ≡ wordC x → EmitsField (r .0) (self f) f base k l m v n →
+    EmitsField (r .1) (self g) g base n m m′ v′ n′ → EmitsField (r .2) (self h) h base n′ m′ m″ v″ n″ →
+    PutWhole m″ (base + 13 * n″) (nodeBytes (node j v v′ v″ (pos 0))) out →
+    EmitsOver (rowPieces r self x) (rowNode j r self x k) base k l out n″
+unfolding rowNode
+emits-fields self j x r {k = k} d e f a b c p =
+    emits-over (rowNode j r self x k)
+    (emits-more self (r .0) _ d (a .pieces) (emits-more self (r .1) _ e (b .pieces) (emits-more self (r .2) nilC f (c .pieces) emits-none)))
+    (rw (← d, ← e, ← f, ← (a .value), ← (a .pieces .next), ← (b .value), ← (b .pieces .next), ← (c .value)) p)
 
-module _ {c : Code} {cs : Codes} {over : List ℕ → Node} (o : Over c cs over) where
-  pub emits-code : {base k r : ℕ} {l m : List ℕ} → top k c < maxNodes → EmitsOver cs over base k l m r → Emits c base k l m r
-  emits-code {k = k} h s =
-      let e = s .number ∙ sym (o .number k) in
+-- code by its cell's row
+module _ {c : Code} {j x : ℕ} {w : Row} {self : ℕ → Code} (b : ByRow c j w self x) where
+  pub emits-row :
+      {base k r : ℕ} {l m : List ℕ} → top k c < maxNodes → EmitsOver (rowPieces w self x) (rowNode j w self x k) base k l m r →
+      Emits c base k l m r
+  emits-row {k = k} h s =
+      let e = s .number ∙ sym (b .number k) in
       record {
         number = e;
         low = omega (arith, e);
-        put = λ f. put-same (ap (records nodeBytes) (sym (o .nodes k))) (s .put f);
+        put = λ f. put-same (ap (records nodeBytes) (sym (b .nodes k))) (s .put f);
       }
 
-  pub over-low : (k : ℕ) → top k c < maxNodes → after k cs < maxNodes
-  over-low k h = rw (o .number k) at h
-
-pub over-variable : {c : Code} {f x : ℕ} → c ≡ ref x → f ≡ x → Over c nilC (λ is. node 1 f 0 0 (pos 0))
-unfolding top tops nodesFrom
-over-variable e g = rw (e, g) (record { number = λ k. refl; nodes = λ k. refl })
-
-pub over-function :
-    (self : ℕ → Code) {c : Code} {f x i : ℕ} → c ≡ fn x (self i) → f ≡ x →
-    Over c (consC (self i) nilC) (λ is. node 8 f 0 (getD is 0 0) (pos 0))
-unfolding top tops nodesFrom
-over-function self e g = rw (e, g) (record { number = λ k. refl; nodes = λ k. simp append-nil })
-
-over-form :
-    {c : Code} {f : Former} {cs : Codes} {over : List ℕ → Node} → c ≡ form f cs → ((is : List ℕ) → formNode f is ≡ over is) →
-    Over c cs over
-unfolding top nodesFrom
-over-form {cs = cs} e g = rw e (record { number = λ k. refl; nodes = λ k. rw (g (tops k cs)) })
-
-pub over-single :
-    (self : ℕ → Code) {c : Code} {i : ℕ} → c ≡ form fixing (consC (self i) nilC) →
-    Over c (consC (self i) nilC) (λ is. node 10 (getD is 0 0) 0 0 (pos 0))
-unfolding formNode
-over-single self e = over-form e (λ is. refl)
-
-module _ {xs : List ℕ} {p x k : ℕ} (s : Cell xs p x k) where
-  pub over-two : (k ≡ 9) ⊎ (k ≡ 12) → Over (codeAt xs p) (twoPieces (codeBelow xs p) x) (twoNode x)
-  unfolding formNode twoNode lastField
-  over-two (inl g) = over-form (is-pair s g .code) (λ is. rw (← s .kind, g))
-  over-two (inr g) = over-form (is-operation s g .code) (λ is. rw (← s .kind, g))
-
-  pub over-three : k ≡ 11 → Over (codeAt xs p) (threePieces (codeBelow xs p) x) threeNode
-  unfolding formNode threeNode
-  over-three g = over-form (is-triple s g .code) (λ is. refl)
-
--- the fields of the node over two pieces
-pub put-two :
-    {k f r i : ℕ} {m m′ : List ℕ} (x a b : ℕ) → k ≡ wordKind x → f ≡ wordC x → r ≡ lastField (eqb k 12) f →
-    PutWhole m i (nodeBytes (node k a b r (pos 0))) m′ → PutWhole m i (nodeBytes (twoNode x (a ∷ b ∷ []))) m′
-unfolding twoNode
-put-two x a b e f g p = rw (← e, ← f, ← g) p
+  pub row-low : (k : ℕ) → top k c < maxNodes → after k (rowPieces w self x) < maxNodes
+  row-low k h = rw (b .number k) at h

@@ -1,9 +1,9 @@
-// The field that the node over two pieces has last.
+// The fields of a written node that hold no piece.
+use lambdamix::Use;
 ghost use mathlib.Core.Path.{_≡_};
-ghost use lib.Dec.{eqb};
 ghost use Rattle.lambdamix.specs.Term.{operatorOf};
 ghost use Rattle.lambdamix.specs.Code.{operatorNumber};
-ghost use Rattle.residual.specs.Answers.{lastField};
+ghost use Rattle.residual.specs.Answers.{fieldBy};
 
 // The number that an operator is written as.
 fn operator(f: u16) -> u16
@@ -15,12 +15,16 @@ fn operator(f: u16) -> u16
     0
 }
 
-// An operation has its operator last.
-pub fn last_field(kind: u16, f: u16) -> u16
-    ensures { λ r. ⌜ r ≡ lastField (eqb kind 12) f ⌝ }
+// A field by its use: a name stands as it is, an operator as its number.
+pub fn plain_field(u: Use, f: u16) -> u16
+    ensures { λ r. ⌜ r ≡ fieldBy u f 0 ⌝ }
 {
-    if kind == 12 {
-        return operator(f);
+    match u {
+        Use::Nothing => 0,
+        Use::Name => f,
+        Use::Binder => f,
+        Use::Child => 0,
+        Use::ParameterType => 0,
+        Use::Operation => operator(f),
     }
-    0
 }

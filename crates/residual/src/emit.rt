@@ -1,14 +1,16 @@
 // Residual code written as a script: the tree unfolded, children just before their parent, by recursion on falling places. A run that
-// gave code finishes here. In the recursion places and numbers of nodes are plain numbers, since a struct goes through memory at a
-// call.
+// gave code finishes here. Which fields of a cell hold pieces is told by the row of its kind.
 use crate::Finish;
 use crate::code;
 use crate::limits::MAX_NODES;
 use crate::size;
 use file::writer;
+use lambdamix::Use;
 use script::Counts;
 use script::NodeNumber;
 use script::Refusal;
+use script::Row;
+use script::kinds::row_of;
 use script::place::file_size;
 use script::place::node_offset;
 use script::word;
@@ -19,14 +21,19 @@ ghost use lib.ListN.{length, getD};
 ghost use Rattle.script.specs.Columns.{inputsIn};
 ghost use Rattle.lambdamix.specs.Limits.{maxNodes};
 ghost use Rattle.lambdamix.specs.Script.{Script};
-ghost use Rattle.lambdamix.specs.Code.{lit, node, size, fits, top, after};
+ghost use Rattle.lambdamix.specs.Code.{lit, nilC, node, size, fits, top, after};
 ghost use Rattle.lambdamix.specs.Specializing.{finished};
 ghost use Rattle.script.specs.File.{nodeBytes, numbered};
-ghost use Rattle.script.specs.Words.{wordKind};
 ghost use Rattle.file.specs.Written.{PutWhole};
-ghost use Rattle.residual.specs.Cells.{twoPieces, threePieces, codeAt, codeBelow};
+ghost use Rattle.residual.specs.Cells.{codeAt, codeBelow, pieceBy, rowPieces};
 ghost use Rattle.residual.specs.AfterRun.{afterRun};
-ghost use Rattle.residual.specs.Answers.{farthest, Emits, EmitsOver, twoNode, threeNode, outcome};
+ghost use Rattle.residual.specs.Answers.{farthest, Emits, EmitsOver, EmitsField, rowNode, outcome};
+
+// How a field is written: what stands in it, and the number of the next node.
+struct Field {
+    value: u16,
+    next: NodeNumber,
+}
 
 // Room for the most nodes, as the count has it.
 const ALL_NODES: u16 = MAX_NODES + 1;
@@ -40,93 +47,109 @@ fn emit_node(out: &mut [u8], base: u32, k: NodeNumber, kind: u8, a: u16, b: u16,
 }
 
 // A constant node and its lift; the answer is the number of the last node, here and below.
-fn emit_constant(out: &mut [u8], base: u32, k: NodeNumber, z: i32) -> u16
+fn emit_constant(out: &mut [u8], base: u32, k: NodeNumber, z: i32) -> NodeNumber
     requires { ⌜ (base ≤ farthest) × (k .0 + 1 < maxNodes) ⌝ }
-    ensures { λ r. ⌜ Emits (lit z) base (k .0) (now (out .entry)) (now (out .exit)) r ⌝ }
+    ensures { λ r. ⌜ Emits (lit z) base (k .0) (now (out .entry)) (now (out .exit)) (r .0) ⌝ }
 {
     emit_node(out, base, k, 0, 0, 0, 0, z);
-    let next = k.0 + 1;
-    emit_node(out, base, NodeNumber(next), 2, k.0, 0, 0, 0);
+    let next = NodeNumber(k.0 + 1);
+    emit_node(out, base, next, 2, k.0, 0, 0, 0);
     next
 }
 
 // The code of the cell x at p as nodes from number k on.
-fn emit(codes: &[u64], p: u16, x: u64, out: &mut [u8], base: u32, k: u16) -> u16
-    requires { ⌜ ((base ≤ farthest) × (top k (codeAt (now codes) p) < maxNodes)) × ((p ≤ length (now codes)) × (x ≡ getD (now codes) p 0)) ⌝ }
-    ensures { λ r. ⌜ Emits (codeAt (now (codes .entry)) p) base k (now (out .entry)) (now (out .exit)) r ⌝ }
+fn emit(codes: &[u64], p: u16, x: u64, out: &mut [u8], base: u32, k: NodeNumber) -> NodeNumber
+    requires { ⌜ ((base ≤ farthest) × (top (k .0) (codeAt (now codes) p) < maxNodes)) × ((p ≤ length (now codes)) × (x ≡ getD (now codes) p 0)) ⌝ }
+    ensures { λ r. ⌜ Emits (codeAt (now (codes .entry)) p) base (k .0) (now (out .entry)) (now (out .exit)) (r .0) ⌝ }
 {
     match word::kind(x) {
-        1 => {
-            emit_node(out, base, NodeNumber(k), 1, word::field_a(x), 0, 0, 0);
-            k
-        }
-        8 => {
-            let n = emit_piece(codes, p, word::field_c(x), out, base, k);
-            emit_node(out, base, NodeNumber(n + 1), 8, word::field_a(x), 0, n, 0);
-            n + 1
-        }
-        9 | 12 => emit_two(codes, p, x, out, base, k),
-        10 => {
-            let n = emit_piece(codes, p, word::field_a(x), out, base, k);
-            emit_node(out, base, NodeNumber(n + 1), 10, n, 0, 0, 0);
-            n + 1
-        }
-        11 => emit_three(codes, p, x, out, base, k),
-        _ => emit_constant(out, base, NodeNumber(k), word::value(x)),
+        1 => emit_row(codes, p, x, 1, row_of(1), out, base, k),
+        8 => emit_row(codes, p, x, 8, row_of(8), out, base, k),
+        9 => emit_row(codes, p, x, 9, row_of(9), out, base, k),
+        10 => emit_row(codes, p, x, 10, row_of(10), out, base, k),
+        11 => emit_row(codes, p, x, 11, row_of(11), out, base, k),
+        12 => emit_row(codes, p, x, 12, row_of(12), out, base, k),
+        _ => emit_constant(out, base, k, word::value(x)),
     }
 }
 
-// Two pieces of the cell x at p, and the node over them.
-fn emit_two(codes: &[u64], p: u16, x: u64, out: &mut [u8], base: u32, k: u16) -> u16
-    requires { ⌜ ((base ≤ farthest) × (after k (twoPieces (codeBelow (now codes) p) x) < maxNodes)) × ((p ≤ length (now codes)) × (wordKind x < 256)) ⌝ }
-    ensures { λ r. ⌜ EmitsOver (twoPieces (codeBelow (now (codes .entry)) p) x) (twoNode x) base k (now (out .entry)) (now (out .exit)) r ⌝ }
+// The fields of the cell x at p by their uses, in order, and the node over the pieces.
+fn emit_row(
+    codes: &[u64],
+    p: u16,
+    x: u64,
+    kind: u8,
+    row: Row,
+    out: &mut [u8],
+    base: u32,
+    k: NodeNumber,
+) -> NodeNumber
+    requires { ⌜ ((base ≤ farthest) × (after (k .0) (rowPieces row (codeBelow (now codes) p) x) < maxNodes)) × (p ≤ length (now codes)) ⌝ }
+    ensures { λ r. ⌜ EmitsOver (rowPieces row (codeBelow (now (codes .entry)) p) x) (rowNode kind row (codeBelow (now (codes .entry)) p) x (k .0)) base (k .0) (now (out .entry)) (now (out .exit)) (r .0) ⌝ }
 {
-    let a = emit_piece(codes, p, word::field_a(x), out, base, k);
-    let b = emit_piece(codes, p, word::field_b(x), out, base, a + 1);
-    let kind = word::kind(x);
-    let c = code::last_field(kind, word::field_c(x));
-    emit_node(out, base, NodeNumber(b + 1), kind as u8, a, b, c, 0);
-    b + 1
+    let u = row.0;
+    let v = row.1;
+    let w = row.2;
+    let a = emit_field(codes, p, u, word::field_a(x), out, base, k);
+    let b = emit_field(codes, p, v, word::field_b(x), out, base, a.next);
+    let c = emit_field(codes, p, w, word::field_c(x), out, base, b.next);
+    emit_node(out, base, c.next, kind, a.value, b.value, c.value, 0);
+    c.next
 }
 
-// Three pieces, and the if over them.
-fn emit_three(codes: &[u64], p: u16, x: u64, out: &mut [u8], base: u32, k: u16) -> u16
-    requires { ⌜ ((base ≤ farthest) × (after k (threePieces (codeBelow (now codes) p) x) < maxNodes)) × (p ≤ length (now codes)) ⌝ }
-    ensures { λ r. ⌜ EmitsOver (threePieces (codeBelow (now (codes .entry)) p) x) threeNode base k (now (out .entry)) (now (out .exit)) r ⌝ }
+// A field f of a cell at p, by its use: a child is a piece, which is written from number k on.
+fn emit_field(
+    codes: &[u64],
+    p: u16,
+    u: Use,
+    f: u16,
+    out: &mut [u8],
+    base: u32,
+    k: NodeNumber,
+) -> Field
+    requires { ⌜ ((base ≤ farthest) × (after (k .0) (pieceBy u (codeBelow (now codes) p f) nilC) < maxNodes)) × (p ≤ length (now codes)) ⌝ }
+    ensures { λ r. ⌜ EmitsField u (codeBelow (now (codes .entry)) p f) f base (k .0) (now (out .entry)) (now (out .exit)) (r .value) (r .next .0) ⌝ }
 {
-    let a = emit_piece(codes, p, word::field_a(x), out, base, k);
-    let b = emit_piece(codes, p, word::field_b(x), out, base, a + 1);
-    let c = emit_piece(codes, p, word::field_c(x), out, base, b + 1);
-    emit_node(out, base, NodeNumber(c + 1), 11, a, b, c, 0);
-    c + 1
+    let Use::Child = u else {
+        return Field {
+            value: code::plain_field(u, f),
+            next: k,
+        };
+    };
+    let n = emit_piece(codes, p, f, out, base, k);
+    Field {
+        value: n.0,
+        next: NodeNumber(n.0 + 1),
+    }
 }
 
 // The code at q if that is below p; else a constant. A variable is written without a call.
-fn emit_piece(codes: &[u64], p: u16, q: u16, out: &mut [u8], base: u32, k: u16) -> u16
-    requires { ⌜ ((base ≤ farthest) × (top k (codeBelow (now codes) p q) < maxNodes)) × (p ≤ length (now codes)) ⌝ }
-    ensures { λ r. ⌜ Emits (codeBelow (now (codes .entry)) p q) base k (now (out .entry)) (now (out .exit)) r ⌝ }
+fn emit_piece(codes: &[u64], p: u16, q: u16, out: &mut [u8], base: u32, k: NodeNumber) -> NodeNumber
+    requires { ⌜ ((base ≤ farthest) × (top (k .0) (codeBelow (now codes) p q) < maxNodes)) × (p ≤ length (now codes)) ⌝ }
+    ensures { λ r. ⌜ Emits (codeBelow (now (codes .entry)) p q) base (k .0) (now (out .entry)) (now (out .exit)) (r .0) ⌝ }
 {
     if p <= q {
-        return emit_constant(out, base, NodeNumber(k), 0);
+        return emit_constant(out, base, k, 0);
     }
     let x = codes[q as usize];
     if word::kind(x) == 1 {
-        emit_node(out, base, NodeNumber(k), 1, word::field_a(x), 0, 0, 0);
+        let name = word::name_a(x);
+        emit_node(out, base, k, 1, name.0, 0, 0, 0);
         return k;
     }
     emit(codes, q, x, out, base, k)
 }
 
 // The code at p as nodes from number 0 on; past the end stands a constant.
-fn emit_root(codes: &[u64], p: u16, out: &mut [u8], base: u32) -> u16
+fn emit_root(codes: &[u64], p: u16, out: &mut [u8], base: u32) -> NodeNumber
     requires { ⌜ (base ≤ farthest) × (top 0 (codeAt (now codes) p) < maxNodes) ⌝ }
-    ensures { λ r. ⌜ Emits (codeAt (now (codes .entry)) p) base 0 (now (out .entry)) (now (out .exit)) r ⌝ }
+    ensures { λ r. ⌜ Emits (codeAt (now (codes .entry)) p) base 0 (now (out .entry)) (now (out .exit)) (r .0) ⌝ }
 {
     let i = p as usize;
     if codes.len() <= i {
         return emit_constant(out, base, NodeNumber(0), 0);
     }
-    emit(codes, p, codes[i], out, base, 0)
+    emit(codes, p, codes[i], out, base, NodeNumber(0))
 }
 
 // Code that fits a file: 21 [0] where the output is shorter than the file, else head, inputs and nodes.
