@@ -1,13 +1,16 @@
 -- The text of a node from those of its children, as the walk puts it together. Assumes nothing.
 use Prim.Native.Nat.{ℕ, _≤_, _<_}
 use mathlib.Core.Path.{_≡_}
-use mathlib.Core.List.{List}
+use mathlib.Core.List.{List, _++_}
+use native.Mathlib.Omega.{arith}
 use lib.IntN.{ℤ}
 use Rattle.lambdamix.specs.declared.Use.{Use}
 use Rattle.lambdamix.specs.Falling.{below}
 use Rattle.lambdamix.specs.Script.{Node}
 use Rattle.lambdamix.specs.Text.{digits}
-use Rattle.script.specs.Kinds.{useOf}
+use Rattle.script.specs.declared.Row.{Row}
+use Rattle.script.specs.KindRows.{rowAt}
+use Rattle.script.proofs.TableLaws.{past-rows}
 use Rattle.lambdamix.proofs.Falling.{falling-step, below-at, below-out}
 use Rattle.printer.specs.declared.Word.{Word}
 use Rattle.printer.specs.Places.{Placed}
@@ -22,6 +25,13 @@ module _ (n : ℕ) (d : List ℕ) (f : ℕ → List ℕ) (m : ℕ) {at e : ℕ} 
   pub no-child-placed : n ≤ m → Placed d at x y e → Placed (below n d f m) at x y e
   no-child-placed h p = rw (below-out n d f m h) p
 
+-- past the table every row is the same
+pub past-kinds : (k : ℕ) → 13 ≤ k → rowAt k ≡ rowAt 13
+unfolding rowAt
+past-kinds k h =
+    rw (past-rows k 0 h, past-rows k 1 h, past-rows k 2 h)
+    (rw (past-rows 13 0 (omega arith), past-rows 13 1 (omega arith), past-rows 13 2 (omega arith)))
+
 -- one step
 pub node-step :
     (n : ℕ) (nodes : ℕ → Node) (i : ℕ) →
@@ -35,14 +45,14 @@ module _ (n : ℕ) (nodes : ℕ → Node) (i : ℕ) where
   part w u f = fieldText n (below i (digits 0) (nodesText n nodes)) w u f
 
   pub node-placed :
-      {k a b c : ℕ} {z : ℤ} {w : Word} {u v t : Use} →
+      {k a b c : ℕ} {z : ℤ} {w : Word} {uses : Row} →
       k ≡ nodes i .kind → a ≡ nodes i .a → b ≡ nodes i .b → c ≡ nodes i .c → z ≡ nodes i .value →
-      w ≡ wordOf k → u ≡ useOf k 0 → v ≡ useOf k 1 → t ≡ useOf k 2 →
-      {at p₁ p₂ p₃ p₄ p₅ e : ℕ} {x x₁ x₂ x₃ x₄ x₅ y : List ℕ} →
-      Placed (framed w 40) at x x₁ p₁ → Placed (wordText w c z) p₁ x₁ x₂ p₂ → Placed (part w u a) p₂ x₂ x₃ p₃ →
-      Placed (part w v b) p₃ x₃ x₄ p₄ → Placed (part w t c) p₄ x₄ x₅ p₅ → Placed (framed w 41) p₅ x₅ y e →
+      w ≡ wordOf k → uses ≡ rowAt k →
+      {at p₁ p₂ p₃ p₄ e : ℕ} {x x₁ x₂ x₃ x₄ y : List ℕ} →
+      Placed (framed w 40 ++ wordText w c z) at x x₁ p₁ → Placed (part w (uses .0) a) p₁ x₁ x₂ p₂ →
+      Placed (part w (uses .1) b) p₂ x₂ x₃ p₃ → Placed (part w (uses .2) c) p₃ x₃ x₄ p₄ → Placed (framed w 41) p₄ x₄ y e →
       Placed (nodesText n nodes i) at x y e
-  unfolding nodeText
-  node-placed ek ea eb ec ez ew eu ev et first head one two three last =
+  unfolding nodeText rowAt
+  node-placed ek ea eb ec ez ew er head one two three last =
       rw (node-step n nodes i)
-      (rw (eu, ev, et, ew, ek, ea, eb, ec, ez) at (join (join (join (join (join first head) one) two) three) last))
+      (rw (er, ew, ek, ea, eb, ec, ez) at (join (join (join (join head one) two) three) last))

@@ -56,12 +56,10 @@ module _ (s x : List ℕ) (a : ℕ) (h : a + length s ≤ length x) where
   nothing-behind = drop-of-length-le (drop a x) {i = length x - a} (rw (length-drop a x) (omega arith))
 
   placed-at :
-      {y : List ℕ} {n : ℕ} → Put s (take (length x - a) (drop a x)) y n →
+      {y : List ℕ} → y ≡ over s (take (length x - a) (drop a x)) →
       take a x ++ (y ++ drop (length x - a) (drop a x)) ≡ take a x ++ over s (drop a x)
-  placed-at {y} p =
-      rw (nothing-behind, append-nil y)
-      (ap (λ (l : List ℕ). take a x ++ l)
-      ((rw rest-whole at p) .stands (rw (length-drop a x) (omega arith))))
+  placed-at {y} e =
+      rw (nothing-behind, append-nil y) (ap (λ (l : List ℕ). take a x ++ l) (rw rest-whole at e))
 
   front : length (take a x ++ s) ≡ a + length s
   front = rw (length-append (take a x), length-take a x) (omega arith)
@@ -70,14 +68,34 @@ module _ (s x : List ℕ) (a : ℕ) (h : a + length s ≤ length x) where
   unfolding over
   same-length = simp (length-append, length-take, length-drop) (omega arith)
 
--- a text that is put at the front of what remains from a place on stands at that place
+-- what stands at the front of what remains from a place on stands at that place
+at-place :
+    {s x y : List ℕ} {a from e : ℕ} → from ≡ min a (length x) → e ≡ min (a + length s) most →
+    (length (take (length x - from) (drop from x)) ≤ most → length s ≤ length (take (length x - from) (drop from x)) →
+    y ≡ over s (take (length x - from) (drop from x))) →
+    Placed s a x (take from x ++ (y ++ drop (length x - from) (drop from x))) e
+at-place {s} {x} {a} {from} f q p = record {
+  counted = q;
+  stands = λ m h.
+      let r : from ≡ a = omega arith in
+      let l : length (take (length x - a) (drop a x)) ≡ length x - a = simp (length-take, length-drop) (omega arith) in
+      rw r (placed-at s x a h ((rw r at p) (omega arith) (omega arith)));
+}
+
+-- a text that is put there
 pub placed :
     {s x y : List ℕ} {a from n e : ℕ} → from ≡ min a (length x) → Put s (take (length x - from) (drop from x)) y n →
     e ≡ min (a + n) most → Placed s a x (take from x ++ (y ++ drop (length x - from) (drop from x))) e
-placed {s} {x} {a} {from} f p q = record {
-  counted = q ∙ rw (p .counted);
-  stands = λ m h. let r : from ≡ a = omega arith in rw r (placed-at s x a h (rw r at p));
-}
+placed f p q = at-place f (omega (arith, p .counted)) (λ m. p .stands)
+
+-- and one that is placed at its front
+pub placed-rest :
+    {s x y : List ℕ} {a from n e : ℕ} → from ≡ min a (length x) → Placed s 0 (take (length x - from) (drop from x)) y n →
+    e ≡ min (a + n) most → Placed s a x (take from x ++ (y ++ drop (length x - from) (drop from x))) e
+placed-rest f p q = at-place f (omega (arith, p .counted)) (λ m h. p .stands m (omega arith))
+
+pub at-front : {s x y : List ℕ} {n : ℕ} → n ≤ most → Put s x y n → Placed s 0 x y n
+at-front h p = record { counted = omega (arith, p .counted); stands = λ m k. p .stands (omega arith) }
 
 pub stays : {x : List ℕ} {a : ℕ} → a ≤ most → Placed [] a x x a
 unfolding over
@@ -97,6 +115,7 @@ join {s} {t} {x} {y} {z} {a} {b} {e} p q = record {
         let l : length y ≡ length x = ap length d ∙ same-length s x a (omega arith) in
         let f : length (take a x ++ s) ≡ b = front s x a (omega arith) ∙ omega (arith, p .counted) in
         let g : y ≡ (take a x ++ s) ++ drop (length s) (drop a x) = d ∙ sym (append-assoc (take a x) s (drop (length s) (drop a x))) in
+        let r : List ℕ = drop (length s) (drop a x) in
         q .stands (omega arith) (omega (arith, p .counted))
-        ∙ rw (g, take-at (take a x ++ s) (drop (length s) (drop a x)) b f, drop-at (take a x ++ s) (drop (length s) (drop a x)) b f, drop-drop (length t) (length s) (drop a x), length-append s t)
-        (simp append-assoc)
+        ∙ rw (g, take-at (take a x ++ s) r b f, drop-at (take a x ++ s) r b f)
+        (rw (drop-drop (length t) (length s) (drop a x), length-append s t) (simp append-assoc))

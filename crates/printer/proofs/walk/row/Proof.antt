@@ -1,0 +1,61 @@
+-- `printer::walk::row` meets its contract: each arm reads the row of its own kind. Assumes nothing.
+use Prim.Native.Nat.{ℕ, _+_, _≤_}
+use mathlib.Core.Logic.{_≢_}
+use native.Mathlib.Omega.{arith}
+use Rattle.printer.proofs.NodeLaws.{past-kinds}
+use Rattle.printer.proofs.walk.row.Statement.{statement}
+use Rattle.printer.proofs.walk.row.Tie as tie
+
+zero-below : (k : ℕ) → 0 ≤ k
+zero-below k = omega arith
+
+-- a number that is none of four above its bound
+four-more : (k n : ℕ) → n ≤ k → k ≢ n → k ≢ n + 1 → k ≢ n + 2 → k ≢ n + 3 → n + 4 ≤ k
+four-more k n h a b c d = omega arith
+
+one-more : (k n : ℕ) → n ≤ k → k ≢ n → n + 1 ≤ k
+one-more k n h a = omega arith
+
+returns-14 : tie.Need-returns-14
+returns-14 c =
+    let k = c .before .before .args .kind in
+    let x = c .before .match .rest .0 in
+    let y = x .0 .0 .0 .0 in
+    let z = y .0 .0 .0 .0 in
+    let four = four-more k 0 (zero-below k) (z .0 .0 .0 .1) (z .0 .0 .1) (z .0 .1) (z .1) in
+    let eight = four-more k 4 four (y .0 .0 .0 .1) (y .0 .0 .1) (y .0 .1) (y .1) in
+    let twelve = four-more k 8 eight (x .0 .0 .0 .1) (x .0 .0 .1) (x .0 .1) (x .1) in
+    rw (past-kinds k (one-more k 12 twelve (c .before .match .rest .1))) (c .row-of14 .ensures)
+
+pub row-spec : {M : Type 1} → statement M
+row-spec =
+    tie.close
+    (tie.spec
+    (λ c κs. tt)
+    (λ c κs. tt)
+    (λ c κs. tt)
+    (λ c κs. tt)
+    (λ c κs. tt)
+    (λ c κs. tt)
+    (λ c κs. tt)
+    (λ c κs. tt)
+    (λ c κs. tt)
+    (λ c κs. tt)
+    (λ c κs. tt)
+    (λ c κs. tt)
+    (λ c κs. tt)
+    (λ c κs. tt)
+    (λ c. rw (c .before .match .keys1) (c .row-of .ensures))
+    (λ c. rw (c .before .match .keys2) (c .row-of2 .ensures))
+    (λ c. rw (c .before .match .keys3) (c .row-of3 .ensures))
+    (λ c. rw (c .before .match .keys4) (c .row-of4 .ensures))
+    (λ c. rw (c .before .match .keys5) (c .row-of5 .ensures))
+    (λ c. rw (c .before .match .keys6) (c .row-of6 .ensures))
+    (λ c. rw (c .before .match .keys7) (c .row-of7 .ensures))
+    (λ c. rw (c .before .match .keys8) (c .row-of8 .ensures))
+    (λ c. rw (c .before .match .keys9) (c .row-of9 .ensures))
+    (λ c. rw (c .before .match .keys10) (c .row-of10 .ensures))
+    (λ c. rw (c .before .match .keys11) (c .row-of11 .ensures))
+    (λ c. rw (c .before .match .keys12) (c .row-of12 .ensures))
+    (λ c. rw (c .before .match .keys13) (c .row-of13 .ensures))
+    returns-14)
