@@ -90,20 +90,25 @@ impl Tally {
         }
     }
 
-    /// Prints what was tried, and tells how much never was.
-    fn print(&self) -> usize {
+    /// Prints what was tried, and tells whether all of it was and nothing differed.
+    fn print(&self) -> bool {
         let mut missing = self.oddities.values().filter(|&&often| often == 0).count();
+        let mut tried = 0;
         for entry in ENTRIES {
             let given = self.numbers[entry as usize];
+            let calls: usize = given.iter().sum();
             let often = |&number: &usize| format!("{number}: {}", given[number]);
             let line: Vec<String> = numbers(entry).iter().map(often).collect();
-            println!("{entry:?}: {} calls ({})", given.iter().sum::<usize>(), line.join(", "));
+            println!("{entry:?}: {calls} calls ({})", line.join(", "));
             missing += numbers(entry).iter().filter(|&&number| given[number] == 0).count();
+            tried += calls;
         }
         for (name, often) in &self.oddities {
             println!("{name}: {often}");
         }
-        missing
+        let differences = self.differences;
+        println!("{tried} calls, by the header and by the wrapper: {differences} differences, {missing} not tried");
+        differences + missing == 0
     }
 }
 
@@ -120,9 +125,7 @@ fn main() -> ExitCode {
             break;
         }
     }
-    let (missing, differences) = (tally.print(), tally.differences);
-    println!("{count} calls by the header and by the wrapper: {differences} differences, {missing} not tried");
-    if differences + missing == 0 {
+    if tally.print() {
         ExitCode::SUCCESS
     } else {
         ExitCode::FAILURE

@@ -125,6 +125,20 @@ fn put<T: Copy>(lent: &mut [T], first: &[T]) {
 }
 
 impl Memory {
+    /// A script's file and its tables, no stores, and an output of zeros.
+    pub fn of(script: &Script, room: usize) -> Memory {
+        Memory {
+            file: encode(script),
+            counts: script.counts(),
+            columns: Columns::of(script),
+            settings: vec![],
+            fuel: 0,
+            heap: vec![],
+            codes: vec![],
+            out: vec![0; room],
+        }
+    }
+
     /// The script in the tables. Tables shorter than the counts give 1 [0]; then come the refusals of the reader of their file.
     fn script(&self) -> Result<Script, Reply> {
         if self.columns.short(&self.counts) {
