@@ -31,7 +31,9 @@ enum {
 
 /* How many types, inputs and nodes a script has. */
 struct scriptmaker_counts {
-    uint16_t types, inputs, nodes;
+    uint16_t types;
+    uint16_t inputs;
+    uint16_t nodes;
 };
 
 struct scriptmaker_check_reply {

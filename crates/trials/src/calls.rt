@@ -1,4 +1,4 @@
-// A call of the maker: number, place and steps of its reply; of made code the count of its nodes and a sum over the bytes of its file.
+// A call of the maker: number, place and steps of its reply; of made code the count of its nodes and the bytes of its file.
 // The record tells whether the run is bare, the fuel, how many places of the heap, of the code store and of the output are lent, the
 // settings, and the script file.
 use crate::print;
@@ -30,26 +30,19 @@ fn lent(record: &[u8], at: u16, most: usize) -> usize
     n
 }
 
-// One more byte of a file in its sum.
-fn summed(sum: u32, byte: u8) -> u32 {
-    (31 * (sum % 65521) + (byte as u32) + 1) % 65521
-}
-
-fn sum_of(file: &[u8], n: usize) -> u32 {
-    let mut sum: u32 = 0;
+// The first n bytes of a file.
+fn print_bytes(file: &[u8], n: usize) {
     for i in 0..n {
-        sum = summed(sum, column::at8(file, i));
+        print::byte(column::at8(file, i));
     }
-    sum
 }
 
-fn print_reply(k: usize, number: u8, place: usize, steps: u16, nodes: u16, sum: u32) {
+fn print_reply(k: usize, number: u8, place: usize, steps: u16, nodes: u16) {
     print::first(k);
     print::next(number as usize);
     print::next(place);
     print::next(steps as usize);
     print::next(nodes as usize);
-    print::next(sum as usize);
     print::end();
 }
 
@@ -62,10 +55,11 @@ fn print_answer(k: usize, r: Reply, out: &[u8]) {
                 inputs: bytes::word16(out, 4),
                 nodes: nodes,
             };
-            let sum = sum_of(out, file_size(made));
-            print_reply(k, 0, 0, steps, nodes, sum);
+            print_reply(k, 0, 0, steps, nodes);
+            print_bytes(out, file_size(made));
+            print::end();
         }
-        Reply::Unmade(f, steps) => print_reply(k, f.number, f.place, steps, 0, 0),
+        Reply::Unmade(f, steps) => print_reply(k, f.number, f.place, steps, 0),
     }
 }
 

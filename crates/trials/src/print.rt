@@ -1,4 +1,4 @@
-// A line of numbers.
+// A line of numbers, or of bytes.
 use libc::STDOUT_FILENO;
 
 pub(crate) fn first(k: usize) {
@@ -8,6 +8,11 @@ pub(crate) fn first(k: usize) {
 pub(crate) fn next(x: usize) {
     io::write_all(STDOUT_FILENO, b" ");
     io::print_decimal(STDOUT_FILENO, x as u64);
+}
+
+// Two hexadecimal digits.
+pub(crate) fn byte(x: u8) {
+    io::print_hex(STDOUT_FILENO, x as u64, 2);
 }
 
 pub(crate) fn end() {

@@ -1,16 +1,5 @@
-//! A second implementation of the script maker, from the papers alone, and a
-//! corpus to compare the two.
-
-mod assemble;
-mod benchmake;
-mod checker;
-mod generate;
-mod listing;
-mod makes;
-mod random;
-mod script;
-mod self_check;
-mod specializer;
+//! The commands of the second implementation: its answers, and a corpus to
+//! compare the two.
 
 use std::fs;
 use std::io::{self, Read, Write};
@@ -18,7 +7,8 @@ use std::path::{Path, PathBuf};
 use std::process::{Command, ExitCode, Stdio};
 use std::thread;
 
-use script::Reply;
+use reference::script::Reply;
+use reference::{assemble, benchmake, checker, entries, generate, makes, script, self_check};
 
 const USAGE: &str = "commands:
   self-check
@@ -36,6 +26,7 @@ const USAGE: &str = "commands:
   pack-long FILE COUNT
   pack-makes FILE SEED COUNT
   packed read|check|benchmake|make FILE
+  entries FILE FUEL HEAP CODES OUT [SETTING..]
   differ PROGRAM SEED COUNT [FILE]
 ";
 
@@ -102,6 +93,13 @@ fn run(words: &[&str]) -> Result<bool, String> {
         }
         ["packed", "benchmake", file] => tell_packed(file, benchmake::benchmake),
         ["packed", "make", file] => tell_packed(file, makes::told),
+        ["entries", file, fuel, heap, codes, out, ref settings @ ..] => {
+            let bytes = fs::read(file).map_err(|e| format!("{file}: {e}"))?;
+            let lengths = [number(heap)?, number(codes)?, number(out)?].map(|n| n as usize);
+            let setting = |word: &&str| word.parse().map_err(|_| format!("{word} is no setting"));
+            let settings: Result<Vec<i32>, String> = settings.iter().map(setting).collect();
+            print(entries::entries(&bytes, number(fuel)? as u32, lengths, &settings?).as_bytes())
+        }
         ["differ", program, seed, count] => differ(program, number(seed)?, number(count)?, None),
         ["differ", program, seed, count, file] => {
             differ(program, number(seed)?, number(count)?, Some(Path::new(file)))

@@ -61,7 +61,7 @@ impl Call {
     }
 }
 
-/// Number, place and steps; of made code also its nodes and a sum over the bytes of its file.
+/// Number, place and steps, and the nodes of made code; then the bytes of its file on a line of their own.
 pub fn told(packed: &[u8]) -> String {
     let call = Call::unpack(packed);
     let run = if call.bare { bare_run } else { make };
@@ -70,12 +70,12 @@ pub fn told(packed: &[u8]) -> String {
         Ok(made) => {
             let file = encode(&made.script);
             if file.len() > call.output {
-                return format!("21 0 {} 0 0\n", made.steps);
+                return format!("21 0 {} 0\n", made.steps);
             }
-            let sum = file.iter().fold(0, |sum, &byte| (31 * sum + byte as u32 + 1) % 65_521);
-            format!("0 0 {} {} {sum}\n", made.steps, made.script.nodes.len())
+            let bytes: String = file.iter().map(|byte| format!("{byte:02x}")).collect();
+            format!("0 0 {} {}\n{bytes}\n", made.steps, made.script.nodes.len())
         }
-        Err(Reply { number, place, steps }) => format!("{number} {place} {steps} 0 0\n"),
+        Err(Reply { number, place, steps }) => format!("{number} {place} {steps} 0\n"),
     }
 }
 

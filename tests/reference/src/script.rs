@@ -1,4 +1,4 @@
-//! Script files: the tables, the reader (refusals 1 to 8) and the writer.
+//! Script files: the tables, their reading (refusals 1 to 8) and their bytes.
 
 pub const MAX_TYPES: usize = 64;
 pub const MAX_INPUTS: usize = 16;
@@ -324,16 +324,6 @@ fn well_formed(node: &Node, number: usize, counts: &Counts) -> bool {
     })
 }
 
-/// Reads into lent tables of the given sizes: 21 comes after all refusals.
-pub fn read_lent(bytes: &[u8], room: &Counts) -> Result<Script, Reply> {
-    let script = read(bytes)?;
-    let counts = script.counts();
-    if room.types < counts.types || room.inputs < counts.inputs || room.nodes < counts.nodes {
-        return Err(Reply::new(21, 0));
-    }
-    Ok(script)
-}
-
 /// The bytes of a script file, whatever its tables hold.
 pub fn encode(script: &Script) -> Vec<u8> {
     let mut bytes = Vec::new();
@@ -359,28 +349,4 @@ pub fn encode(script: &Script) -> Vec<u8> {
         bytes.extend(node.value.to_le_bytes());
     }
     bytes
-}
-
-/// Writes the first records of the tables, as many as the counts say, into
-/// an output with `room` bytes.
-pub fn write(counts: &Counts, tables: &Script, room: usize) -> Result<Vec<u8>, Reply> {
-    let short = tables.types.len() < counts.types
-        || tables.inputs.len() < counts.inputs
-        || tables.nodes.len() < counts.nodes;
-    if short {
-        return Err(Reply::new(1, 0));
-    }
-    if !counts.within_limits() {
-        return Err(Reply::new(3, 0));
-    }
-    let bytes = encode(&Script {
-        types: tables.types[..counts.types].to_vec(),
-        inputs: tables.inputs[..counts.inputs].to_vec(),
-        nodes: tables.nodes[..counts.nodes].to_vec(),
-    });
-    read(&bytes)?;
-    if room < bytes.len() {
-        return Err(Reply::new(21, 0));
-    }
-    Ok(bytes)
 }

@@ -5,6 +5,7 @@ use crate::assemble::assemble;
 use crate::benchmake::{answer, benchmake, encode_settings, FUEL};
 use crate::checker;
 use crate::generate;
+use crate::lent::{Entry, Memory};
 use crate::listing::{listing, listing_lent, MAX_LISTING};
 use crate::script::*;
 use crate::specializer::{bare_run, make, Lent, Made};
@@ -186,15 +187,25 @@ fn part_trials(tally: &mut Tally) {
     tally.trial("used never and twice", damaged(84, 3), Some((6, 3)));
     tally.trial("bound by nothing", damaged(71, 2), Some((8, 4)));
 
-    let room = |nodes| Counts { types: 0, inputs: 2, nodes };
-    tally.trial("tables fit", place(read_lent(&bytes, &room(6))), None);
-    tally.trial("tables short", place(read_lent(&bytes, &room(5))), Some((21, 0)));
-    let written = |counts: &Counts, room| write(counts, &a, room).map_err(|r| (r.number, r.place));
-    tally.trial("written", written(&a.counts(), 94), Ok(bytes.clone()));
-    tally.trial("output short", written(&a.counts(), 93), Err((21, 0)));
-    tally.trial("writer's tables short", written(&room(7), 0), Err((1, 0)));
-    tally.trial("no nodes to write", written(&room(0), 0), Err((3, 0)));
-    tally.trial("part of a script", written(&room(5), 0), Err((6, 3)));
+    let read_lent = |nodes| {
+        let mut memory = Memory::of(&a, 0);
+        memory.columns.c.truncate(nodes);
+        let answer = memory.call(Entry::Read);
+        (answer.number, answer.place, answer.counts.nodes)
+    };
+    tally.trial("tables fit", read_lent(6), (0, 0, 6));
+    tally.trial("tables short", read_lent(5), (21, 0, 0));
+    let written = |nodes, room| {
+        let mut memory = Memory::of(&a, room);
+        memory.counts.nodes = nodes;
+        let answer = memory.call(Entry::Write);
+        (answer.number, answer.place, memory.out)
+    };
+    tally.trial("written", written(6, 94), (0, 0, bytes.clone()));
+    tally.trial("output short", written(6, 93), (21, 0, vec![0; 93]));
+    tally.trial("writer's tables short", written(7, 0), (1, 0, vec![]));
+    tally.trial("no nodes to write", written(0, 0), (3, 0, vec![]));
+    tally.trial("part of a script", written(5, 0), (6, 3, vec![]));
 
     let lent = |store, code, output| {
         let lent = Lent { store, code, output };

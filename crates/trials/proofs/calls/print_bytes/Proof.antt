@@ -1,18 +1,18 @@
--- `trials::calls::sum_of` meets its contract: the loop over the bytes ends. Assumes nothing.
+-- `trials::calls::print_bytes` meets its contract: the loop over the bytes ends. Assumes nothing.
 use borrow.Author.Needs.{needs}
 use Prim.Native.Nat.{_≤_, _-_}
 use native.Mathlib.Omega.{arith}
-use Rattle.trials.proofs.calls.sum_of.Statement.{statement}
-use Rattle.trials.proofs.calls.sum_of.Tie as tie
+use Rattle.trials.proofs.calls.print_bytes.Statement.{statement}
+use Rattle.trials.proofs.calls.print_bytes.Tie as tie
 
 abbrev Inv-loop : tie.InvT-loop
-Inv-loop file n sum₀ i₀ sum i = i ≤ n
+Inv-loop file n i₀ i = i ≤ n
 
 abbrev μ-loop : tie.MeasureT-loop
-μ-loop file n sum₀ i₀ sum i = n - i
+μ-loop file n i₀ i = n - i
 
-pub sum-of-spec : {M : Type 1} → statement M
-sum-of-spec =
+pub print-bytes-spec : {M : Type 1} → statement M
+print-bytes-spec =
     tie.close
     (tie.spec
     Inv-loop

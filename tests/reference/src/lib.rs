@@ -1,0 +1,15 @@
+//! A second implementation of the script maker, from the papers alone, and a
+//! corpus to compare the two.
+
+pub mod assemble;
+pub mod benchmake;
+pub mod checker;
+pub mod entries;
+pub mod generate;
+pub mod lent;
+pub mod listing;
+pub mod makes;
+pub mod random;
+pub mod script;
+pub mod self_check;
+pub mod specializer;
