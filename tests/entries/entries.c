@@ -1,27 +1,30 @@
 /* Calls each entry by the header on one script file, and prints each reply and all that was lent:
  *   entries FILE FUEL HEAP CODES OUT [SETTING..]
  * HEAP, CODES and OUT are the lengths of the stores and the output. No two columns are of one length, and no two of what is lent
- * hold the same before. */
+ * hold the same before. Then it reads and makes with the tables, the stores and the fuel that the header has for any script. */
 #include <stdio.h>
 #include <stdlib.h>
 
 #include "scriptmaker.h"
 
-static uint8_t file[SCRIPTMAKER_FILE];
-static uint16_t parameters[5], results[6], inputs[7], a[41], b[42], c[43];
-static uint8_t kinds[40];
-static int32_t values[44];
+static struct {
+    uint16_t parameters[5], results[6], inputs[7];
+    uint8_t kinds[40];
+    uint16_t a[41], b[42], c[43];
+    int32_t values[44];
+} few;
+static struct scriptmaker_script any;
+static struct scriptmaker_stores stores;
+static uint8_t file[SCRIPTMAKER_FILE], out[SCRIPTMAKER_LISTING];
 static int32_t settings[SCRIPTMAKER_INPUTS];
-static uint64_t heap[SCRIPTMAKER_HEAP], codes[SCRIPTMAKER_CODES];
-static uint8_t out[SCRIPTMAKER_LISTING];
-static size_t heap_length, codes_length, out_length;
+static size_t heap, codes, room; /* how much of the stores and the output is lent */
 
 #define LENGTH(x) (sizeof(x) / sizeof *(x))
 #define FILL(x, n, v) \
     for (size_t k = 0; k < (n); k++) (x)[k] = (v)
-#define PRINT(x, n)                                        \
+#define PRINT(name, x, n)                                  \
     do {                                                   \
-        printf(#x);                                        \
+        printf(name);                                      \
         for (size_t k = 0, i; k < (n); k = i) {            \
             for (i = k; i < (n) && (x)[i] == (x)[k];) i++; \
             printf(" %lld", (long long)(x)[k]);            \
@@ -29,26 +32,44 @@ static size_t heap_length, codes_length, out_length;
         }                                                  \
         printf("\n");                                      \
     } while (0)
-#define COLUMNS                                                                                                \
-    parameters, LENGTH(parameters), results, LENGTH(results), inputs, LENGTH(inputs), kinds, LENGTH(kinds), a, \
-        LENGTH(a), b, LENGTH(b), c, LENGTH(c), values, LENGTH(values)
+#define EACH_COLUMN(DO, x) \
+    DO(parameters, x, 100) \
+    DO(results, x, 101)    \
+    DO(inputs, x, 102)     \
+    DO(kinds, x, 103)      \
+    DO(a, x, 104)          \
+    DO(b, x, 105)          \
+    DO(c, x, 106)          \
+    DO(values, x, 107)
+#define FILL_COLUMN(name, x, v) FILL(x.name, LENGTH(x.name), v);
+#define PRINT_COLUMN(name, x, v) PRINT(#name, x.name, LENGTH(x.name));
+#define FEW                                                                                                         \
+    few.parameters, LENGTH(few.parameters), few.results, LENGTH(few.results), few.inputs, LENGTH(few.inputs),       \
+        few.kinds, LENGTH(few.kinds), few.a, LENGTH(few.a), few.b, LENGTH(few.b), few.c, LENGTH(few.c), few.values, \
+        LENGTH(few.values)
 
+/* What is lent to be written, before a call. */
 static void prepare(void) {
-    FILL(heap, heap_length, 600);
-    FILL(codes, codes_length, 700);
-    FILL(out, out_length, 238);
+    FILL(stores.heap, heap, 600);
+    FILL(stores.codes, codes, 700);
+    FILL(out, room, 238);
+}
+
+static void was_read(struct scriptmaker_read_reply r) {
+    printf("read: number %u place %zu", r.number, r.place);
+    printf(" types %u inputs %u nodes %u\n", r.counts.types, r.counts.inputs, r.counts.nodes);
 }
 
 static void wrote(const char *entry, struct scriptmaker_write_reply r) {
     printf("%s: number %u place %zu length %zu\n", entry, r.number, r.place, r.length);
-    PRINT(out, out_length);
+    PRINT("out", out, room);
 }
 
 static void made(const char *entry, struct scriptmaker_make_reply r) {
     printf("%s: number %u place %zu steps %u nodes %u\n", entry, r.number, r.place, r.steps, r.nodes);
-    PRINT(heap, heap_length);
-    PRINT(codes, codes_length);
-    PRINT(out, out_length);
+    PRINT("heap", stores.heap, heap);
+    PRINT("codes", stores.codes, codes);
+    PRINT("out", out, room);
 }
 
 int main(int count, char **words) {
@@ -56,44 +77,38 @@ int main(int count, char **words) {
     if (!f) return 2;
     size_t length = fread(file, 1, sizeof file, f), given = (size_t)count - 6;
     uint32_t fuel = (uint32_t)strtoul(words[2], NULL, 10);
-    heap_length = strtoul(words[3], NULL, 10);
-    codes_length = strtoul(words[4], NULL, 10);
-    out_length = strtoul(words[5], NULL, 10);
-    if (heap_length > LENGTH(heap) || codes_length > LENGTH(codes) || out_length > sizeof out ||
-        given > LENGTH(settings))
-        return 2;
+    heap = strtoul(words[3], NULL, 10);
+    codes = strtoul(words[4], NULL, 10);
+    room = strtoul(words[5], NULL, 10);
+    if (heap > SCRIPTMAKER_HEAP || codes > SCRIPTMAKER_CODES || room > sizeof out || given > LENGTH(settings)) return 2;
     for (size_t k = 0; k < given; k++) settings[k] = atoi(words[6 + k]);
-    FILL(parameters, LENGTH(parameters), 100);
-    FILL(results, LENGTH(results), 101);
-    FILL(inputs, LENGTH(inputs), 102);
-    FILL(kinds, LENGTH(kinds), 103);
-    FILL(a, LENGTH(a), 104);
-    FILL(b, LENGTH(b), 105);
-    FILL(c, LENGTH(c), 106);
-    FILL(values, LENGTH(values), 107);
 
-    struct scriptmaker_read_reply r = scriptmaker_read(file, length, COLUMNS);
+    EACH_COLUMN(FILL_COLUMN, few)
+    struct scriptmaker_read_reply r = scriptmaker_read(file, length, FEW);
     struct scriptmaker_counts n = r.counts;
-    printf("read: number %u place %zu types %u inputs %u nodes %u\n", r.number, r.place, n.types, n.inputs, n.nodes);
-    PRINT(parameters, LENGTH(parameters));
-    PRINT(results, LENGTH(results));
-    PRINT(inputs, LENGTH(inputs));
-    PRINT(kinds, LENGTH(kinds));
-    PRINT(a, LENGTH(a));
-    PRINT(b, LENGTH(b));
-    PRINT(c, LENGTH(c));
-    PRINT(values, LENGTH(values));
+    was_read(r);
+    EACH_COLUMN(PRINT_COLUMN, few)
     prepare();
-    wrote("write", scriptmaker_write(n, COLUMNS, out, out_length));
+    wrote("write", scriptmaker_write(n, FEW, out, room));
     prepare();
-    wrote("list", scriptmaker_list(n, COLUMNS, out, out_length));
-    struct scriptmaker_check_reply q = scriptmaker_check(n, COLUMNS);
+    wrote("list", scriptmaker_list(n, FEW, out, room));
+    struct scriptmaker_check_reply q = scriptmaker_check(n, FEW);
     printf("check: number %u place %zu\n", q.number, q.place);
     prepare();
-    made("make",
-         scriptmaker_make(n, COLUMNS, settings, given, fuel, heap, heap_length, codes, codes_length, out, out_length));
+    made("make", scriptmaker_make(n, FEW, settings, given, fuel, stores.heap, heap, stores.codes, codes, out, room));
     prepare();
-    made("bare_run", scriptmaker_bare_run(n, COLUMNS, settings, given, fuel, heap, heap_length, codes, codes_length,
-                                          out, out_length));
+    made("bare_run",
+         scriptmaker_bare_run(n, FEW, settings, given, fuel, stores.heap, heap, stores.codes, codes, out, room));
+
+    heap = SCRIPTMAKER_HEAP;
+    codes = SCRIPTMAKER_CODES;
+    room = SCRIPTMAKER_FILE;
+    EACH_COLUMN(FILL_COLUMN, any)
+    r = scriptmaker_read(file, length, SCRIPTMAKER_OF(&any));
+    was_read(r);
+    EACH_COLUMN(PRINT_COLUMN, any)
+    prepare();
+    made("make", scriptmaker_make(r.counts, SCRIPTMAKER_OF(&any), settings, given, SCRIPTMAKER_FUEL,
+                                  SCRIPTMAKER_IN(&stores), out, room));
     return fflush(stdout) ? 2 : 0;
 }

@@ -1,6 +1,6 @@
 //! The same as entries.c, by the wrapper.
 
-use scriptmaker::{Counts, Made, Refusal, Script, Stores};
+use scriptmaker::{Counts, Made, Refusal, Script, Stores, MAX_FILE, MAX_FUEL};
 use std::fmt::Display;
 
 fn print<T: PartialEq + Display>(name: &str, places: &[T]) {
@@ -14,10 +14,15 @@ fn print<T: PartialEq + Display>(name: &str, places: &[T]) {
     println!("{line}");
 }
 
-/// What is lent to be written, before a call.
-fn prepare(lengths: &[usize]) -> (Stores, Vec<u8>) {
-    let stores = Stores { heap: vec![600; lengths[0]], codes: vec![700; lengths[1]] };
-    (stores, vec![238; lengths[2]])
+fn fill(script: &mut Script) {
+    script.parameters.fill(100);
+    script.results.fill(101);
+    script.inputs.fill(102);
+    script.kinds.fill(103);
+    script.a.fill(104);
+    script.b.fill(105);
+    script.c.fill(106);
+    script.values.fill(107);
 }
 
 /// Number and place of a reply.
@@ -26,40 +31,11 @@ fn told<T>(reply: &Result<T, Refusal>) -> String {
     format!("number {number} place {place}")
 }
 
-fn wrote(entry: &str, reply: Result<usize, Refusal>, out: &[u8]) {
-    println!("{entry}: {} length {}", told(&reply), reply.unwrap_or(0));
-    print("out", out);
-}
-
-fn made(entry: &str, reply: Result<Made, Refusal>, stores: &Stores, out: &[u8]) {
-    let (steps, nodes) = reply.map_or_else(|f| (f.steps, 0), |made| (made.steps, made.nodes));
-    println!("{entry}: {} steps {steps} nodes {nodes}", told(&reply));
-    print("heap", &stores.heap);
-    print("codes", &stores.codes);
-    print("out", out);
-}
-
-fn main() {
-    let words: Vec<String> = std::env::args().skip(1).collect();
-    let number = |word: &String| word.parse::<i64>().expect("a number");
-    let file = std::fs::read(&words[0]).expect("a file");
-    let fuel = number(&words[1]) as u32;
-    let lengths: Vec<usize> = words[2..5].iter().map(|word| number(word) as usize).collect();
-    let settings: Vec<i32> = words[5..].iter().map(|word| number(word) as i32).collect();
-    let mut script = Script {
-        counts: Counts::default(),
-        parameters: vec![100; 5],
-        results: vec![101; 6],
-        inputs: vec![102; 7],
-        kinds: vec![103; 40],
-        a: vec![104; 41],
-        b: vec![105; 42],
-        c: vec![106; 43],
-        values: vec![107; 44],
-    };
-    let reply = script.read(&file);
-    let n = script.counts;
-    println!("read: {} types {} inputs {} nodes {}", told(&reply), n.types, n.inputs, n.nodes);
+fn read(script: &mut Script, file: &[u8]) {
+    fill(script);
+    let reply = script.read(file);
+    let Counts { types, inputs, nodes } = script.counts;
+    println!("read: {} types {types} inputs {inputs} nodes {nodes}", told(&reply));
     print("parameters", &script.parameters);
     print("results", &script.results);
     print("inputs", &script.inputs);
@@ -68,13 +44,62 @@ fn main() {
     print("b", &script.b);
     print("c", &script.c);
     print("values", &script.values);
-    let (_, mut out) = prepare(&lengths);
-    wrote("write", script.write(&mut out), &out);
-    let (_, mut out) = prepare(&lengths);
-    wrote("list", script.list(&mut out), &out);
-    println!("check: {}", told(&script.check()));
-    let (mut stores, mut out) = prepare(&lengths);
-    made("make", script.make(&settings, fuel, &mut stores, &mut out), &stores, &out);
-    let (mut stores, mut out) = prepare(&lengths);
-    made("bare_run", script.bare_run(&settings, fuel, &mut stores, &mut out), &stores, &out);
+}
+
+fn wrote(entry: &str, room: usize, call: impl Fn(&mut [u8]) -> Result<usize, Refusal>) {
+    let mut out = vec![238; room];
+    let reply = call(&mut out);
+    println!("{entry}: {} length {}", told(&reply), reply.unwrap_or(0));
+    print("out", &out);
+}
+
+fn made(
+    entry: &str,
+    stores: &mut Stores,
+    room: usize,
+    call: impl Fn(&mut Stores, &mut [u8]) -> Result<Made, Refusal>,
+) {
+    let mut out = vec![238; room];
+    stores.heap.fill(600);
+    stores.codes.fill(700);
+    let reply = call(stores, &mut out);
+    let (steps, nodes) = reply.map_or_else(|f| (f.steps, 0), |made| (made.steps, made.nodes));
+    println!("{entry}: {} steps {steps} nodes {nodes}", told(&reply));
+    print("heap", &stores.heap);
+    print("codes", &stores.codes);
+    print("out", &out);
+}
+
+fn main() {
+    let words: Vec<String> = std::env::args().skip(1).collect();
+    let number = |word: &String| word.parse::<i64>().expect("a number");
+    let file = std::fs::read(&words[0]).expect("a file");
+    let fuel = number(&words[1]) as u32;
+    let [heap, codes, room] = [2, 3, 4].map(|k: usize| number(&words[k]) as usize);
+    let settings: Vec<i32> = words[5..].iter().map(|word| number(word) as i32).collect();
+
+    let mut few = Script {
+        counts: Counts::default(),
+        parameters: vec![0; 5],
+        results: vec![0; 6],
+        inputs: vec![0; 7],
+        kinds: vec![0; 40],
+        a: vec![0; 41],
+        b: vec![0; 42],
+        c: vec![0; 43],
+        values: vec![0; 44],
+    };
+    let mut stores = Stores { heap: vec![0; heap], codes: vec![0; codes] };
+    read(&mut few, &file);
+    wrote("write", room, |out| few.write(out));
+    wrote("list", room, |out| few.list(out));
+    println!("check: {}", told(&few.check()));
+    made("make", &mut stores, room, |stores, out| few.make(&settings, fuel, stores, out));
+    made("bare_run", &mut stores, room, |stores, out| few.bare_run(&settings, fuel, stores, out));
+
+    let mut any = Script::new();
+    read(&mut any, &file);
+    made("make", &mut Stores::new(MAX_FUEL), MAX_FILE, |stores, out| {
+        any.make(&settings, MAX_FUEL, stores, out)
+    });
 }

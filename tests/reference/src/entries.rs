@@ -1,7 +1,8 @@
 //! Each entry on one script file, and all that was lent, printed: what the callers in `tests/entries` print.
 
 use crate::lent::{Columns, Entry, Memory};
-use crate::script::Counts;
+use crate::script::{Counts, MAX_INPUTS, MAX_NODES, MAX_TYPES};
+use crate::specializer::MAX_FUEL;
 use std::fmt::Display;
 
 /// The places of a piece of memory, a run of equal ones told once.
@@ -52,34 +53,48 @@ fn told(entry: Entry, name: &str, memory: &mut Memory) -> String {
     text
 }
 
-/// All entries, one after the other; `lengths` are those of the stores and the output.
+/// Columns of any lengths.
+fn columns(lengths: [usize; 8]) -> Columns {
+    Columns {
+        parameters: vec![100; lengths[0]],
+        results: vec![101; lengths[1]],
+        inputs: vec![102; lengths[2]],
+        kinds: vec![103; lengths[3]],
+        a: vec![104; lengths[4]],
+        b: vec![105; lengths[5]],
+        c: vec![106; lengths[6]],
+        values: vec![107; lengths[7]],
+    }
+}
+
+/// All entries, one after the other, with stores and an output of these lengths; then reading and making with what is enough for any
+/// script.
 pub fn entries(file: &[u8], fuel: u32, lengths: [usize; 3], settings: &[i32]) -> String {
-    let mut memory = Memory {
+    let few = Memory {
         file: file.to_vec(),
         counts: Counts { types: 0, inputs: 0, nodes: 0 },
-        columns: Columns {
-            parameters: vec![100; 5],
-            results: vec![101; 6],
-            inputs: vec![102; 7],
-            kinds: vec![103; 40],
-            a: vec![104; 41],
-            b: vec![105; 42],
-            c: vec![106; 43],
-            values: vec![107; 44],
-        },
+        columns: columns([5, 6, 7, 40, 41, 42, 43, 44]),
         settings: settings.to_vec(),
         fuel,
         heap: vec![0; lengths[0]],
         codes: vec![0; lengths[1]],
         out: vec![0; lengths[2]],
     };
-    let all = [
-        (Entry::Read, "read"),
-        (Entry::Write, "write"),
-        (Entry::List, "list"),
-        (Entry::Check, "check"),
-        (Entry::Make, "make"),
-        (Entry::BareRun, "bare_run"),
-    ];
-    all.iter().map(|&(entry, name)| told(entry, name, &mut memory)).collect()
+    let (types, nodes) = (MAX_TYPES, MAX_NODES);
+    let longest = Counts { types, inputs: MAX_INPUTS, nodes }.length();
+    let any = Memory {
+        columns: columns([types, types, MAX_INPUTS, nodes, nodes, nodes, nodes, nodes]),
+        fuel: MAX_FUEL as u32,
+        heap: vec![0; MAX_FUEL + 16],
+        codes: vec![0; 2 * MAX_FUEL + 16],
+        out: vec![0; longest],
+        ..few.clone()
+    };
+    let (read, make) = ((Entry::Read, "read"), (Entry::Make, "make"));
+    let (write, list) = ((Entry::Write, "write"), (Entry::List, "list"));
+    let (check, bare_run) = ((Entry::Check, "check"), (Entry::BareRun, "bare_run"));
+    let all = |mut memory: Memory, entries: &[(Entry, &str)]| -> String {
+        entries.iter().map(|&(entry, name)| told(entry, name, &mut memory)).collect()
+    };
+    all(few, &[read, write, list, check, make, bare_run]) + &all(any, &[read, make])
 }
