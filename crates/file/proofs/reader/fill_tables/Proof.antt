@@ -30,14 +30,14 @@ fill32-requires c κs = c .before .before .before .before .before .before .befor
 returns : tie.Need-returns
 returns c =
     tables-filled _ _ _ _ _ _ (c .before .before .before .before .before .before .before .before .before .before .before .before .before .before .before .before .before .before .before .before .before .before .before .before .before .before .before .before .before .before .before .before .before .type-offset .ensures) (c .before .before .before .before .before .before .before .before .before .before .before .before .before .before .before .before .before .before .before .before .before .before .before .before .before .before .before .before .before .before .before .before .input-offset .ensures) (c .before .before .before .before .before .before .before .before .before .before .before .before .before .before .before .before .before .before .before .before .before .before .before .before .before .before .before .before .before .before .before .node-offset .ensures)
-    (c .before .before .before .before .before .before .before .before .before .before .before .before .before .before .before .before .before .before .before .before .before .before .before .before .before .before .before .before .before .fill16 .ensures)
-    (c .before .before .before .before .before .before .before .before .before .before .before .before .before .before .before .before .before .before .before .before .before .before .before .before .before .fill162 .ensures)
-    (c .before .before .before .before .before .before .before .before .before .before .before .before .before .before .before .before .before .before .before .before .before .fill163 .ensures)
-    (c .before .before .before .before .before .before .before .before .before .before .before .before .before .before .before .before .before .fill8 .ensures)
-    (c .before .before .before .before .before .before .before .before .before .before .before .before .before .fill164 .ensures)
-    (c .before .before .before .before .before .before .before .before .before .fill165 .ensures)
-    (c .before .before .before .before .before .fill166 .ensures)
-    (c .before .fill32 .ensures)
+    (search (c .before .before .before .before .before .before .before .before .before .before .before .before .before .before .before .before .before .before .before .before .before .before .before .before .before .before .before .before .before .fill16 .ensures))
+    (search (c .before .before .before .before .before .before .before .before .before .before .before .before .before .before .before .before .before .before .before .before .before .before .before .before .before .fill162 .ensures))
+    (search (c .before .before .before .before .before .before .before .before .before .before .before .before .before .before .before .before .before .before .before .before .before .fill163 .ensures))
+    (search (c .before .before .before .before .before .before .before .before .before .before .before .before .before .before .before .before .before .fill8 .ensures))
+    (search (c .before .before .before .before .before .before .before .before .before .before .before .before .before .fill164 .ensures))
+    (search (c .before .before .before .before .before .before .before .before .before .fill165 .ensures))
+    (search (c .before .before .before .before .before .fill166 .ensures))
+    (search (c .before .fill32 .ensures))
 
 pub fill-tables-spec : {M : Type 1} → statement M
 fill-tables-spec =
