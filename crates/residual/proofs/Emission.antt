@@ -32,6 +32,9 @@ put-nodes :
     j ≡ k + length ns → Put m (base + 13 * j) bs m′ → Put l (base + 13 * k) (records nodeBytes ns ++ bs) m′
 put-nodes base k ns p e q = put-both p (omega (arith, records-length nodeLayout ns)) q
 
+pub put-at : {i j : ℕ} {l m bs : List ℕ} → i ≡ j → PutWhole l i bs m → PutWhole l j bs m
+put-at e p = rw (← e) p
+
 one-record : (nd : Node) → records nodeBytes (nd ∷ []) ≡ nodeBytes nd
 unfolding records
 one-record nd = append-nil (nodeBytes nd)

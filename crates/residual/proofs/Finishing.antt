@@ -1,7 +1,7 @@
 -- The end of a run that gave code: its file is put part behind part, and the reply and the output are those of paper 01, "26, 21".
 -- Assumes nothing.
 use Prim.Native.Nat.{ℕ, zero, suc, _+_, _*_, _-_, _≤_, _<_}
-use mathlib.Core.Path.{_≡_, refl, sym, ap, _∙_, subst}
+use mathlib.Core.Path.{_≡_, refl, sym, ap, _∙_, subst⁻¹}
 use mathlib.Core.Bool.{true, false}
 use mathlib.Core.List.{List, _++_}
 use mathlib.Core.Option.{some}
@@ -27,7 +27,7 @@ use Rattle.file.proofs.WritingLaws.{put-length, put-both, put-same, put-over}
 use Rattle.residual.specs.declared.Finish.the-variants as Finish
 use Rattle.residual.specs.Cells.{spend, roomOf}
 use Rattle.residual.specs.AfterRun.{writtenBy, afterRun}
-use Rattle.residual.specs.Answers.{replyOf, outcome}
+use Rattle.residual.specs.Answers.{Counted, replyOf, outcome}
 use Rattle.residual.proofs.Spending.{Spent, left, spent, spend-fits, spend-size}
 
 -- ---- counts
@@ -45,27 +45,28 @@ fits-small c e h =
     omega (arith, leb-true (size c) maxNodes (and-both (leb (size c) maxNodes) (leb (codeHeight c) maxHeight) h .0))
 
 -- what the count of code leaves tells whether it fits a file, and its nodes
-module _ (room : ℕ) (c : Code) (e : roomOf room ≡ spend c maxNodes maxHeight) where
-  pub room-over : room ≡ 0 → fits c ≡ false
-  unfolding roomOf
-  room-over z = spend-fits c (sym e ∙ ap roomOf z)
+pub counted : (room : ℕ) (c : Code) → roomOf room ≡ spend c maxNodes maxHeight → Counted c room
+unfolding roomOf
+counted zero c e = record { most = omega arith; over = λ z. spend-fits c (sym e); left = λ f. absurd (f refl) }
+counted (suc b) c e = go (subst⁻¹ (Spent (size c) (codeHeight c) maxNodes maxHeight) e (spent c maxNodes maxHeight))
+  where
+    go : Spent (size c) (codeHeight c) maxNodes maxHeight (some b) → Counted c (suc b)
+    go (left q l) =
+        record {
+          most = omega arith;
+          over = λ z. absurd (omega arith);
+          left = λ f. (omega arith, spend-size c b (sym e) .0);
+        }
 
-  room-left : (room ≡ 0 → ⊥) → spend c maxNodes maxHeight ≡ some (room - 1)
-  unfolding roomOf
-  room-left f = sym e ∙ go room f
-    where
-      go : (n : ℕ) → (n ≡ 0 → ⊥) → roomOf n ≡ some (n - 1)
-      go zero g = absurd (g refl)
-      go (suc b) g = ap some (omega arith)
+module _ {c : Code} {r : ℕ} (s : Counted c r) where
+  pub counted-over : r ≡ 0 → fits c ≡ false
+  counted-over = s .over
 
-  pub room-size : (room ≡ 0 → ⊥) → size c + room ≡ maxNodes + 1
-  room-size f = go (subst (Spent (size c) (codeHeight c) maxNodes maxHeight) (room-left f) (spent c maxNodes maxHeight))
-    where
-      go : Spent (size c) (codeHeight c) maxNodes maxHeight (some (room - 1)) → size c + room ≡ maxNodes + 1
-      go (left q l) = omega (arith, q)
+  pub counted-size : (r ≡ 0 → ⊥) → maxNodes + 1 - r ≡ size c
+  counted-size f = s .left f .0
 
-  pub room-fits : (room ≡ 0 → ⊥) → (maxNodes + 1 - room ≡ size c) × (fits c ≡ true)
-  room-fits f = (omega (arith, room-size f), spend-size c (room - 1) (room-left f) .0)
+  pub counted-fits : (r ≡ 0 → ⊥) → fits c ≡ true
+  counted-fits f = s .left f .1
 
 -- ---- the file
 

@@ -76,20 +76,20 @@ no-more c h (suc b) (suc l) e = go (subst⁻¹ (Spent (size c) (codeHeight c) b 
 -- a piece that took a room of b + 1 to l + 1 takes as much of that again
 second :
     {k t b l h : ℕ} {o : Option ℕ} → Spent k t b h (some l) → Spent k t l h o →
-    (suc l ≤ suc b - suc l → none ≡ o) × (suc b - suc l < suc l → roomOf (suc l - (suc b - suc l)) ≡ o)
+    (suc l ≤ suc b - suc l → none ≡ o) × ((n : ℕ) → suc b - suc l < suc l → n ≡ suc l - (suc b - suc l) → roomOf n ≡ o)
 unfolding roomOf
 second {b = b} {l = l} (left e g) (left {r} f i) = (
   (λ x. absurd (omega arith)),
-  λ x. let q : suc l - (suc b - suc l) ≡ suc r = omega arith in rw q,
+  λ n x y. let q : n ≡ suc r = omega arith in rw q,
 )
-second (left e g) (over f) = ((λ x. refl), λ x. absurd (f (omega arith) g))
+second (left e g) (over f) = ((λ x. refl), λ n x y. absurd (f (omega arith) g))
 
 pub again :
     (c : Code) (h room left : ℕ) → roomOf left ≡ spendOne c (roomOf room) h →
     (left ≤ room - left → none ≡ spendOne c (roomOf left) h)
-    × (room - left < left → roomOf (left - (room - left)) ≡ spendOne c (roomOf left) h)
+    × ((n : ℕ) → room - left < left → n ≡ left - (room - left) → roomOf n ≡ spendOne c (roomOf left) h)
 unfolding spend roomOf
-again c h room zero e = ((λ x. refl), λ x. absurd (omega arith))
+again c h room zero e = ((λ x. refl), λ n x y. absurd (omega arith))
 again c h zero (suc l) e = let z : _≡_ {A = ℕ} 0 1 = cc in absurd (omega arith)
 again c h (suc b) (suc l) e = second (subst⁻¹ (Spent (size c) (codeHeight c) b h) e (spent c b h)) (spent c l h)
 

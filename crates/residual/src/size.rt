@@ -11,10 +11,10 @@ ghost use Prim.Native.Nat.{ℕ, _≤_};
 ghost use mathlib.Core.Path.{_≡_};
 ghost use mathlib.Core.Bool.{true};
 ghost use lib.ListN.{length, getD};
-ghost use Rattle.lambdamix.specs.Limits.{maxNodes, maxHeight};
 ghost use Rattle.lambdamix.specs.declared.Use.the-variants.{Child};
 ghost use Rattle.lambdamix.specs.Code.{Code, nilC, ref};
-ghost use Rattle.residual.specs.Cells.{codeAt, codeBelow, pieceBy, rowPieces, spend, spendOne, roomOf, Spends, SpendsUnder, SpendsAll};
+ghost use Rattle.residual.specs.Cells.{codeAt, codeBelow, pieceBy, rowPieces, spendOne, roomOf, Spends, SpendsUnder, SpendsAll};
+ghost use Rattle.residual.specs.Answers.{Counted};
 
 // One node, as a variable is.
 fn spend_node(room: u16, height: u16) -> u16
@@ -130,7 +130,7 @@ fn spend_piece(codes: &[u64], p: u16, q: u16, room: u16, low: u16) -> u16
 
 // The code at p, out of the most nodes and the greatest height.
 pub fn spend(codes: &[u64], p: u16) -> u16
-    ensures { λ r. ⌜ roomOf r ≡ spend (codeAt (now (codes .entry)) p) maxNodes maxHeight ⌝ }
+    ensures { λ r. ⌜ Counted (codeAt (now (codes .entry)) p) r ⌝ }
 {
     let i = p as usize;
     if codes.len() <= i {

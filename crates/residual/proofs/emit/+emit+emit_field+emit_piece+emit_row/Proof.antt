@@ -1,16 +1,22 @@
 -- The nodes of code are put by the rows of its cells' kinds: the cycle of calls {emit, emit_field, emit_piece, emit_row}. The measure is
 -- the place, since a piece stands below its cell. Assumes nothing.
 use borrow.Author.Needs.{needs}
-use Prim.Native.Nat.{ℕ, _+_, _*_, _<_}
-use mathlib.Core.Path.{refl, _∙_}
+use Prim.Native.Nat.{ℕ, _+_, _*_, _<_, _≤_}
+use mathlib.Core.Path.{_≡_, refl, _∙_}
+use mathlib.Core.List.{List}
 use native.Mathlib.Omega.{arith}
+use lib.ListN.{length}
 use mir.Syntax.{w32}
 use mir.Facts.{toZ-ofZ}
 use borrow.Fn.Kinds.{In}
 use borrow.Fn.PlainCycle.{Measures, is, falls, and}
 use Rattle.lambdamix.specs.Limits.{maxNodes}
-use Rattle.residual.specs.Cells.{codeBelow}
-use Rattle.residual.proofs.Rows.{not-child, variable, function, application, fix, choice, operation}
+use Rattle.lambdamix.specs.Code.{after}
+use Rattle.script.specs.declared.Row.{Row}
+use Rattle.script.specs.KindRows.{rowAt}
+use Rattle.residual.specs.Cells.{codeAt, codeBelow, rowPieces}
+use Rattle.residual.specs.Answers.{farthest, Emits, EmitsOver, rowNode}
+use Rattle.residual.proofs.Rows.{not-child, HasRow, ByRow, variable, function, application, fix, choice, operation}
 use Rattle.residual.proofs.CellLaws.{below-there, below-none, is-variable, is-row, is-constant}
 use Rattle.residual.proofs.Emission.{low-constant, emits-constant, emits-variable, emits-plain, child-low, emits-child, low-first, low-rest, emits-fields, emits-row, row-low}
 use Rattle.residual.proofs.emit.emit.Reads as emit
@@ -131,77 +137,26 @@ emit-row-calls t = (
 
 -- ---- emit
 
-variable-requires : (t : ℕ) → emit-lts.Need-emit-row-requires (emit-calls t) (emit-at t) emit.Post
-variable-requires t c κs =
-    let m = c .before .before in
-    let p = m .before .before .before .before .pre in
-    (omega (arith, p .0), ((p .1 .0 .0, row-low (is-row (record { word = p .1 .1 .1; kind = m .before .kind .ensures }) variable (m .match .keys1) (c .before .row-of .ensures)) _ (p .1 .0 .1)), p .1 .1 .0))
+-- what is known of a cell with a row
+module _ (t : ℕ) (m : emit-lts.After-kind (emit-calls t) (emit-at t) emit.Post) {j : ℕ} {r : Row} (h : HasRow j) (g : m .kind .result ≡ j) (e : r ≡ rowAt j) where
+  abbrev a : emit-lts.Args (emit-calls t) (emit-at t) emit.Post (m .before .before .before .κs)
+  a = m .before .before .before .args
 
-variable-returns : (t : ℕ) → emit-lts.Need-returns (emit-calls t) (emit-at t) emit.Post
-variable-returns t c =
-    let m = c .before .before .before .before .before in
-    let p = m .before .before .before .before .pre in
-    emits-row (is-row (record { word = p .1 .1 .1; kind = m .before .kind .ensures }) variable (m .match .keys1) (c .before .before .before .before .row-of .ensures)) (p .1 .0 .1) (c .before .before .emit-row .ensures)
+  by-row : ByRow (codeAt (a .codes .now) (a .p)) j r (codeBelow (a .codes .now) (a .p)) (a .x)
+  by-row = is-row (record { word = m .before .before .before .pre .1 .1 .1; kind = m .kind .ensures }) h g e
 
-function-requires : (t : ℕ) → emit-lts.Need-emit-row-requires-2 (emit-calls t) (emit-at t) emit.Post
-function-requires t c κs =
-    let m = c .before .before in
-    let p = m .before .before .before .before .pre in
-    (omega (arith, p .0), ((p .1 .0 .0, row-low (is-row (record { word = p .1 .1 .1; kind = m .before .kind .ensures }) function (m .match .keys2) (c .before .row-of2 .ensures)) _ (p .1 .0 .1)), p .1 .1 .0))
+  row-requires :
+      (4 * a .p + 2 < t)
+      × (((a .base ≤ farthest) × (after (a .k .0) (rowPieces r (codeBelow (a .codes .now) (a .p)) (a .x)) < maxNodes)) × (a .p ≤ length (a .codes .now)))
+  row-requires =
+      let p = m .before .before .before .pre in
+      (omega (arith, p .0), ((p .1 .0 .0, row-low by-row (a .k .0) (p .1 .0 .1)), p .1 .1 .0))
 
-function-returns : (t : ℕ) → emit-lts.Need-returns-2 (emit-calls t) (emit-at t) emit.Post
-function-returns t c =
-    let m = c .before .before .before .before .before in
-    let p = m .before .before .before .before .pre in
-    emits-row (is-row (record { word = p .1 .1 .1; kind = m .before .kind .ensures }) function (m .match .keys2) (c .before .before .before .before .row-of2 .ensures)) (p .1 .0 .1) (c .before .before .emit-row2 .ensures)
-
-application-requires : (t : ℕ) → emit-lts.Need-emit-row-requires-3 (emit-calls t) (emit-at t) emit.Post
-application-requires t c κs =
-    let m = c .before .before in
-    let p = m .before .before .before .before .pre in
-    (omega (arith, p .0), ((p .1 .0 .0, row-low (is-row (record { word = p .1 .1 .1; kind = m .before .kind .ensures }) application (m .match .keys3) (c .before .row-of3 .ensures)) _ (p .1 .0 .1)), p .1 .1 .0))
-
-application-returns : (t : ℕ) → emit-lts.Need-returns-3 (emit-calls t) (emit-at t) emit.Post
-application-returns t c =
-    let m = c .before .before .before .before .before in
-    let p = m .before .before .before .before .pre in
-    emits-row (is-row (record { word = p .1 .1 .1; kind = m .before .kind .ensures }) application (m .match .keys3) (c .before .before .before .before .row-of3 .ensures)) (p .1 .0 .1) (c .before .before .emit-row3 .ensures)
-
-fix-requires : (t : ℕ) → emit-lts.Need-emit-row-requires-4 (emit-calls t) (emit-at t) emit.Post
-fix-requires t c κs =
-    let m = c .before .before in
-    let p = m .before .before .before .before .pre in
-    (omega (arith, p .0), ((p .1 .0 .0, row-low (is-row (record { word = p .1 .1 .1; kind = m .before .kind .ensures }) fix (m .match .keys4) (c .before .row-of4 .ensures)) _ (p .1 .0 .1)), p .1 .1 .0))
-
-fix-returns : (t : ℕ) → emit-lts.Need-returns-4 (emit-calls t) (emit-at t) emit.Post
-fix-returns t c =
-    let m = c .before .before .before .before .before in
-    let p = m .before .before .before .before .pre in
-    emits-row (is-row (record { word = p .1 .1 .1; kind = m .before .kind .ensures }) fix (m .match .keys4) (c .before .before .before .before .row-of4 .ensures)) (p .1 .0 .1) (c .before .before .emit-row4 .ensures)
-
-choice-requires : (t : ℕ) → emit-lts.Need-emit-row-requires-5 (emit-calls t) (emit-at t) emit.Post
-choice-requires t c κs =
-    let m = c .before .before in
-    let p = m .before .before .before .before .pre in
-    (omega (arith, p .0), ((p .1 .0 .0, row-low (is-row (record { word = p .1 .1 .1; kind = m .before .kind .ensures }) choice (m .match .keys5) (c .before .row-of5 .ensures)) _ (p .1 .0 .1)), p .1 .1 .0))
-
-choice-returns : (t : ℕ) → emit-lts.Need-returns-5 (emit-calls t) (emit-at t) emit.Post
-choice-returns t c =
-    let m = c .before .before .before .before .before in
-    let p = m .before .before .before .before .pre in
-    emits-row (is-row (record { word = p .1 .1 .1; kind = m .before .kind .ensures }) choice (m .match .keys5) (c .before .before .before .before .row-of5 .ensures)) (p .1 .0 .1) (c .before .before .emit-row5 .ensures)
-
-operation-requires : (t : ℕ) → emit-lts.Need-emit-row-requires-6 (emit-calls t) (emit-at t) emit.Post
-operation-requires t c κs =
-    let m = c .before .before in
-    let p = m .before .before .before .before .pre in
-    (omega (arith, p .0), ((p .1 .0 .0, row-low (is-row (record { word = p .1 .1 .1; kind = m .before .kind .ensures }) operation (m .match .keys6) (c .before .row-of6 .ensures)) _ (p .1 .0 .1)), p .1 .1 .0))
-
-operation-returns : (t : ℕ) → emit-lts.Need-returns-6 (emit-calls t) (emit-at t) emit.Post
-operation-returns t c =
-    let m = c .before .before .before .before .before in
-    let p = m .before .before .before .before .pre in
-    emits-row (is-row (record { word = p .1 .1 .1; kind = m .before .kind .ensures }) operation (m .match .keys6) (c .before .before .before .before .row-of6 .ensures)) (p .1 .0 .1) (c .before .before .emit-row6 .ensures)
+  row-emitted :
+      {n : ℕ} {out after′ : List ℕ} →
+      EmitsOver (rowPieces r (codeBelow (a .codes .now) (a .p)) (a .x)) (rowNode j r (codeBelow (a .codes .now) (a .p)) (a .x) (a .k .0)) (a .base) (a .k .0) out after′ n →
+      Emits (codeAt (a .codes .now) (a .p)) (a .base) (a .k .0) out after′ n
+  row-emitted = emits-row by-row (m .before .before .before .pre .1 .0 .1)
 
 constant-requires : (t : ℕ) → emit-lts.Need-emit-constant-requires (emit-calls t) (emit-at t) emit.Post
 constant-requires t c κs =
@@ -336,31 +291,43 @@ pub +emit+emit-field+emit-piece+emit-row-spec : {M : Type 1} → statement M
     emit-lts.spec (emit-calls t) (emit-at t) emit.Post
     (λ c κs. tt)
     (λ c κs. tt)
-    (variable-requires t)
+    (λ c κs. row-requires t (c .before .before .before) variable (c .before .before .match .keys1) (c .before .row-of .ensures))
     (λ c κs. tt)
-    (function-requires t)
+    (λ c κs. row-requires t (c .before .before .before) function (c .before .before .match .keys2) (c .before .row-of2 .ensures))
     (λ c κs. tt)
-    (application-requires t)
+    (λ c κs. row-requires t (c .before .before .before) application (c .before .before .match .keys3) (c .before .row-of3 .ensures))
     (λ c κs. tt)
-    (fix-requires t)
+    (λ c κs. row-requires t (c .before .before .before) fix (c .before .before .match .keys4) (c .before .row-of4 .ensures))
     (λ c κs. tt)
-    (choice-requires t)
+    (λ c κs. row-requires t (c .before .before .before) choice (c .before .before .match .keys5) (c .before .row-of5 .ensures))
     (λ c κs. tt)
-    (operation-requires t)
+    (λ c κs. row-requires t (c .before .before .before) operation (c .before .before .match .keys6) (c .before .row-of6 .ensures))
     (λ c κs. tt)
     (constant-requires t)
     (λ c. search needs)
-    (variable-returns t)
+    (λ c.
+    row-emitted t (c .before .before .before .before .before .before) variable (c .before .before .before .before .before .match .keys1)
+    (c .before .before .before .before .row-of .ensures) (c .before .before .emit-row .ensures))
     (λ c. search needs)
-    (function-returns t)
+    (λ c.
+    row-emitted t (c .before .before .before .before .before .before) function (c .before .before .before .before .before .match .keys2)
+    (c .before .before .before .before .row-of2 .ensures) (c .before .before .emit-row2 .ensures))
     (λ c. search needs)
-    (application-returns t)
+    (λ c.
+    row-emitted t (c .before .before .before .before .before .before) application (c .before .before .before .before .before .match .keys3)
+    (c .before .before .before .before .row-of3 .ensures) (c .before .before .emit-row3 .ensures))
     (λ c. search needs)
-    (fix-returns t)
+    (λ c.
+    row-emitted t (c .before .before .before .before .before .before) fix (c .before .before .before .before .before .match .keys4)
+    (c .before .before .before .before .row-of4 .ensures) (c .before .before .emit-row4 .ensures))
     (λ c. search needs)
-    (choice-returns t)
+    (λ c.
+    row-emitted t (c .before .before .before .before .before .before) choice (c .before .before .before .before .before .match .keys5)
+    (c .before .before .before .before .row-of5 .ensures) (c .before .before .emit-row5 .ensures))
     (λ c. search needs)
-    (operation-returns t)
+    (λ c.
+    row-emitted t (c .before .before .before .before .before .before) operation (c .before .before .before .before .before .match .keys6)
+    (c .before .before .before .before .row-of6 .ensures) (c .before .before .emit-row6 .ensures))
     (λ c. search needs)
     (constant-returns t))
     (λ t.

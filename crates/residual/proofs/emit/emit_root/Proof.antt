@@ -13,7 +13,7 @@ unfolding maxNodes
 constant-requires c κs = (c .before .before .before .before .pre .0, omega arith)
 
 returns : tie.Need-returns
-returns c = emits-constant (past-read (c .before .before .before .before .if1 .taken) .code) refl (c .before .before .emit-constant .ensures)
+returns c = emits-constant (past-read (omega (arith, c .before .before .before .before .if1 .taken)) .code) refl (c .before .before .emit-constant .ensures)
 
 emit-requires : tie.Need-emit-requires
 emit-requires c κs = (c .before .before .before .before .before .pre, (omega (arith, c .before .before .if1 .left), refl))

@@ -2,12 +2,14 @@
 -- measure is the place, since a piece stands below its cell. Assumes nothing.
 use borrow.Author.Needs.{needs}
 use Prim.Native.Nat.{ℕ, _+_, _*_, _<_}
-use mathlib.Core.Path.{refl}
+use mathlib.Core.Path.{_≡_, refl}
 use native.Mathlib.Omega.{arith}
 use borrow.Fn.Kinds.{In}
 use borrow.Fn.PlainCycle.{Measures, is, falls, and}
-use Rattle.residual.specs.Cells.{codeBelow, pieceBy}
-use Rattle.residual.proofs.Rows.{not-child, plain, variable, function, application, fix, choice, operation}
+use Rattle.script.specs.declared.Row.{Row}
+use Rattle.script.specs.KindRows.{rowAt}
+use Rattle.residual.specs.Cells.{codeBelow, pieceBy, rowPieces, SpendsAll, SpendsUnder}
+use Rattle.residual.proofs.Rows.{not-child, plain, HasRow, variable, function, application, fix, choice, operation}
 use Rattle.residual.proofs.CellLaws.{is-row, is-constant, spends-none, spends-lift, spends-variable, spends-flat, spends-under, under-code, under-row, all-node, all-plain, child-left, all-child, all-again, all-more}
 use Rattle.residual.proofs.Spending.{no-more}
 use Rattle.residual.proofs.size.spend_field.Reads as spend-field
@@ -162,35 +164,14 @@ under-returns t c = spends-under (c .before .before .before .before .before .if2
 
 -- ---- spend_pieces
 
-variable-returns : (t : ℕ) → spend-pieces-lts.Need-returns (spend-pieces-calls t) (spend-pieces-at t) spend-pieces.Post
-variable-returns t c =
-    let m = c .before .before in
-    under-row (is-row (record { word = m .before .before .before .pre .1 .1; kind = m .before .kind .ensures }) variable (m .match .keys1) (c .before .row-of .ensures)) (c .spend-row .ensures)
-
-function-returns : (t : ℕ) → spend-pieces-lts.Need-returns-2 (spend-pieces-calls t) (spend-pieces-at t) spend-pieces.Post
-function-returns t c =
-    let m = c .before .before in
-    under-row (is-row (record { word = m .before .before .before .pre .1 .1; kind = m .before .kind .ensures }) function (m .match .keys2) (c .before .row-of2 .ensures)) (c .spend-row2 .ensures)
-
-application-returns : (t : ℕ) → spend-pieces-lts.Need-returns-3 (spend-pieces-calls t) (spend-pieces-at t) spend-pieces.Post
-application-returns t c =
-    let m = c .before .before in
-    under-row (is-row (record { word = m .before .before .before .pre .1 .1; kind = m .before .kind .ensures }) application (m .match .keys3) (c .before .row-of3 .ensures)) (c .spend-row3 .ensures)
-
-fix-returns : (t : ℕ) → spend-pieces-lts.Need-returns-4 (spend-pieces-calls t) (spend-pieces-at t) spend-pieces.Post
-fix-returns t c =
-    let m = c .before .before in
-    under-row (is-row (record { word = m .before .before .before .pre .1 .1; kind = m .before .kind .ensures }) fix (m .match .keys4) (c .before .row-of4 .ensures)) (c .spend-row4 .ensures)
-
-choice-returns : (t : ℕ) → spend-pieces-lts.Need-returns-5 (spend-pieces-calls t) (spend-pieces-at t) spend-pieces.Post
-choice-returns t c =
-    let m = c .before .before in
-    under-row (is-row (record { word = m .before .before .before .pre .1 .1; kind = m .before .kind .ensures }) choice (m .match .keys5) (c .before .row-of5 .ensures)) (c .spend-row5 .ensures)
-
-operation-returns : (t : ℕ) → spend-pieces-lts.Need-returns-6 (spend-pieces-calls t) (spend-pieces-at t) spend-pieces.Post
-operation-returns t c =
-    let m = c .before .before in
-    under-row (is-row (record { word = m .before .before .before .pre .1 .1; kind = m .before .kind .ensures }) operation (m .match .keys6) (c .before .row-of6 .ensures)) (c .spend-row6 .ensures)
+-- what is known of a cell with a row
+row-spent :
+    (t : ℕ) (m : spend-pieces-lts.After-kind (spend-pieces-calls t) (spend-pieces-at t) spend-pieces.Post) {j n : ℕ} {r : Row} → HasRow j →
+    m .kind .result ≡ j → r ≡ rowAt j →
+    SpendsAll (rowPieces r (codeBelow (m .before .before .args .codes .now) (m .before .before .args .p)) (m .before .before .args .x))
+    (m .before .before .args .room) (m .before .before .args .low) n →
+    SpendsUnder (m .before .before .args .codes .now) (m .before .before .args .p) (m .before .before .args .room) (m .before .before .args .low) n
+row-spent t m h g e = under-row (is-row (record { word = m .before .before .pre .1 .1; kind = m .kind .ensures }) h g e)
 
 constant-returns : (t : ℕ) → spend-pieces-lts.Need-returns-7 (spend-pieces-calls t) (spend-pieces-at t) spend-pieces.Post
 constant-returns t c =
@@ -262,12 +243,12 @@ pub +spend-field+spend-piece+spend-pieces+spend-row-spec : {M : Type 1} → stat
     (λ c κs. tt)
     (λ c κs. (omega arith, search needs))
     (λ c κs. tt)
-    (variable-returns t)
-    (function-returns t)
-    (application-returns t)
-    (fix-returns t)
-    (choice-returns t)
-    (operation-returns t)
+    (λ c. row-spent t (c .before .before .before) variable (c .before .before .match .keys1) (c .before .row-of .ensures) (c .spend-row .ensures))
+    (λ c. row-spent t (c .before .before .before) function (c .before .before .match .keys2) (c .before .row-of2 .ensures) (c .spend-row2 .ensures))
+    (λ c. row-spent t (c .before .before .before) application (c .before .before .match .keys3) (c .before .row-of3 .ensures) (c .spend-row3 .ensures))
+    (λ c. row-spent t (c .before .before .before) fix (c .before .before .match .keys4) (c .before .row-of4 .ensures) (c .spend-row4 .ensures))
+    (λ c. row-spent t (c .before .before .before) choice (c .before .before .match .keys5) (c .before .row-of5 .ensures) (c .spend-row5 .ensures))
+    (λ c. row-spent t (c .before .before .before) operation (c .before .before .match .keys6) (c .before .row-of6 .ensures) (c .spend-row6 .ensures))
     (constant-returns t))
     λ t.
     spend-row-lts.spec (spend-row-calls t) (spend-row-at t) spend-row.Post

@@ -1,17 +1,21 @@
 -- `residual::size::spend` meets its contract: past the end stands a constant, else the root's node is counted. Assumes nothing.
 use borrow.Author.Needs.{needs}
 use Rattle.lambdamix.specs.Limits.{maxNodes, maxHeight}
+use Rattle.residual.specs.Cells.{codeAt}
 use Rattle.residual.proofs.CellLaws.{whole-past, whole-under}
+use Rattle.residual.proofs.Finishing.{counted}
 use Rattle.residual.proofs.size.spend.Statement.{statement}
 use Rattle.residual.proofs.size.spend.Tie as tie
 
 returns : tie.Need-returns
 unfolding maxNodes
-returns c = whole-past (c .before .before .args .codes .now) (c .before .before .args .p) (c .if1 .taken)
+returns c =
+    let a = c .before .before .args in
+    counted _ (codeAt (a .codes .now) (a .p)) (whole-past (a .codes .now) (a .p) (c .if1 .taken))
 
 returns-2 : tie.Need-returns-2
 unfolding maxNodes maxHeight
-returns-2 c = whole-under (c .spend-pieces .ensures)
+returns-2 c = counted _ _ (whole-under (c .spend-pieces .ensures))
 
 pub spend-spec : {M : Type 1} → statement M
 spend-spec =

@@ -1,5 +1,6 @@
 -- `residual::size::spend_again` meets its contract: each branch knows whether as much is left. Assumes nothing.
 use borrow.Author.Needs.{needs}
+use native.Mathlib.Omega.{arith}
 use Rattle.residual.specs.Cells.{roomOf}
 use Rattle.residual.proofs.Spending.{again}
 use Rattle.residual.proofs.size.spend_again.Statement.{statement}
@@ -10,7 +11,7 @@ unfolding roomOf
 returns c = λ d h e. again d h (c .before .args .room) (c .before .args .left) e .0 (c .if1 .taken)
 
 returns-2 : tie.Need-returns-2
-returns-2 c = λ d h e. again d h (c .before .args .room) (c .before .args .left) e .1 (c .if1 .left)
+returns-2 c = λ d h e. again d h (c .before .args .room) (c .before .args .left) e .1 _ (c .if1 .left) (omega arith)
 
 pub spend-again-spec : {M : Type 1} → statement M
 spend-again-spec = tie.close (tie.spec (λ c. search needs) returns (λ c. search needs) returns-2)
