@@ -130,7 +130,8 @@ node-given t = (
 )
 
 child-returns : (t : ℕ) → child-lts.Need-returns (child-given t) (child-now t) child.Post
-child-returns t c = child-placed _ _ _ _ (c .before .before .before .before .if1 .taken) (c .before .before .node .ensures)
+child-returns t c =
+    child-placed _ _ _ _ (omega (arith, c .before .before .before .before .if1 .taken)) (c .before .before .node .ensures)
 
 child-returns-2 : (t : ℕ) → child-lts.Need-returns-2 (child-given t) (child-now t) child.Post
 child-returns-2 t c =
