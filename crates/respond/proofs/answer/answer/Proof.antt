@@ -16,8 +16,8 @@ returns c =
     let s = c .before .before .before .before .before .before .before .before .before .before .before .before .before .before .before .before in
     let h = s .before .before .before .before .before .before .before .before .before .before .before .before .before .before .before in
     let e = h .script-end .ensures in
-    let all = record { below = λ i. omega (arith, h .before .before .shared-slice-known .given i) } in
-    input-answered _ refl e (s .before .before .before .before .before .read .ensures) (omega (arith, e)) all
+    input-answered _ refl e (s .before .before .before .before .before .read .ensures) (omega (arith, e))
+    (record { below = λ i. omega (arith, h .before .before .shared-slice-known .given i) })
     (c .before .before .answer-script .ensures)
 
 pub answer-spec : {M : Type 1} → statement M
