@@ -40,6 +40,6 @@ fn main() {
     let mut out = [0u8; MAX_BYTES];
     match respond(&space[..n], &mut out) {
         Response::Printed(k) => print(&out, k),
-        Response::TooShort => {}
+        Response::Refused(_) => {}
     }
 }

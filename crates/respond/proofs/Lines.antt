@@ -53,10 +53,10 @@ counts-short k n h l =
     simp length-append (omega (arith, digits-within 4 k (omega arith), digits-within 4 n (omega arith)))
 
 pub counts-placed :
-    (k n : ℕ) → k < 65536 → n < 65536 → {x y : List ℕ} {r : ℕ} →
-    Placed (pairText (ascii "accepted\nsteps ") k (ascii "\nnodes ") n) 0 x y r → CountsPlaced k n x y r
+    (k n : ℕ) → k < 65536 → n < 65536 → {v w x y : List ℕ} {r : ℕ} → v ≡ ascii "accepted\nsteps " → w ≡ ascii "\nnodes " →
+    Placed (pairText v k w n) 0 x y r → CountsPlaced k n x y r
 unfolding countsText
-counts-placed k n h l p = record { short = counts-short k n h l; placed = p }
+counts-placed k n h l e f p = record { short = counts-short k n h l; placed = rw (e, f) at p }
 
 -- ---- a listing behind them
 

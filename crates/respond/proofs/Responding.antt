@@ -16,16 +16,17 @@ use Rattle.script.specs.declared.Reading.{Reading}
 use Rattle.script.specs.declared.Reading.the-variants as Reading
 use Rattle.script.specs.Bytes.{byteAt}
 use Rattle.lambdamix.specs.Checker.{Refusal}
+use Rattle.lambdamix.specs.Structure.{refusedUnless}
 use Rattle.script.specs.Refusals.{fileRefusal}
 use Rattle.script.specs.Replies.{headCounts}
 use Rattle.file.specs.Encodable.{AllBytes}
-use Rattle.script.specs.Tables.{Tables, longEnough, over}
+use Rattle.script.specs.Tables.{Tables, longEnough, over, writtenOutput}
 use Rattle.script.specs.Replies.{Reads}
 use Rattle.printer.specs.Places.{most}
 use Rattle.script.proofs.Rows.{everywhere}
-use Rattle.respond.specs.declared.Response.the-variants.{Printed, TooShort}
+use Rattle.respond.specs.declared.Response.the-variants.{Printed, Refused}
 use Rattle.respond.specs.Response.{scriptLength, scriptPart, settingsPart, inputReply, replyTo, unmadeText, replyText, response}
-use Rattle.respond.specs.Answers.{responded, respondedOutput, Responds}
+use Rattle.respond.specs.Answers.{replying, responseReply, outputRefusal, Responds}
 use Rattle.respond.specs.Stages.{Prints, AnswersScript, AnswersReading, Answers}
 use Rattle.respond.proofs.Splitting.{front-part, back-part}
 use Rattle.respond.proofs.Holding.{one-count, refused-not-read, passed-read, refused-read, held}
@@ -96,17 +97,18 @@ module _ (input : List ℕ) {x y : Tables} {end : ℕ} {told : Reading} (room : 
 module _ {input out : List ℕ} where
   pub call-answered :
       {n : ℕ} {printed : List ℕ} → maxBytes ≤ length out → length out < most → Answers input out printed n → Responds input out printed (Printed n)
-  unfolding responded respondedOutput
+  unfolding responseReply replying outputRefusal refusedUnless writtenOutput
   call-answered {n} {printed} long small a =
       let p = a .answers long in
       let fits : length (response input) ≤ maxBytes = p .short in
       let count : n ≡ length (response input) = omega (arith, p .placed .counted) in
       let written : printed ≡ over (response input) out = p .placed .stands (omega arith) (omega arith) in
       record {
-        reply = rw (le-leb maxBytes (length out) long) (ap Printed count);
+        reply = rw (le-leb maxBytes (length out) long, count);
         output = rw (le-leb maxBytes (length out) long) written;
       }
 
-  pub call-short : length out < maxBytes → Responds input out out TooShort
-  unfolding responded respondedOutput
-  call-short h = record { reply = rw (lt-leb maxBytes (length out) h); output = rw (lt-leb maxBytes (length out) h) }
+  pub call-short : {f : Told.Refusal} → f .number ≡ 21 → f .place ≡ 0 → length out < maxBytes → Responds input out out (Refused f)
+  unfolding responseReply replying outputRefusal refusedUnless writtenOutput
+  call-short p q h =
+      record { reply = rw (lt-leb maxBytes (length out) h, p, q); output = rw (lt-leb maxBytes (length out) h) }

@@ -12,7 +12,7 @@ use borrow.Author.Tests.{ltb-true, leb-true, leb-false}
 use Rattle.lambdamix.specs.Limits.{programFuel}
 use Rattle.lambdamix.specs.Structure.{firstFailing}
 use Rattle.script.specs.declared.Counts.{Counts}
-use Rattle.script.specs.File.{numbered, headTypes, headInputs, headNodes}
+use Rattle.script.specs.File.{numbered, headTypes, headInputs, headNodes, fileLength}
 use Rattle.script.specs.Refusals.{headMarked, countsRight, isNone}
 use Rattle.script.specs.Tables.{Tables, over}
 use Rattle.script.proofs.Numbered.{length-numbered}
@@ -29,6 +29,11 @@ from-start e = omega arith
 
 pub end-within : (k n : ℕ) {e : ℕ} → e ≡ min k n → e ≤ n
 end-within k n h = omega arith
+
+-- equal counts give one length
+pub same-size :
+    {r a b c x y z : ℕ} → r ≡ fileLength a b c → a ≡ x → b ≡ y → c ≡ z → r ≡ fileLength x y z
+same-size e p q s = e ∙ rw (p, q, s)
 
 module _ (bs : List ℕ) where
   pub length-by :

@@ -1,26 +1,39 @@
--- What `respond` promises, for every call: its answer and the output by `response`, and that nothing is written where the output is
--- too short. Assumes nothing.
+-- What `respond` promises, for every call: its reply by number, place and the count of the bytes that it printed, and the output by
+-- `response`; an output below 65,536 bytes is 21, before all else. Assumes nothing.
 use Prim.Native.Nat.{ℕ}
 use mathlib.Core.Path.{_≡_}
-use mathlib.Core.Bool.{Bool, true, false}
 use mathlib.Core.List.{List}
+use mathlib.Core.Option.{Option, none, some}
 use lib.ListN.{length}
 use lib.Dec.{leb}
 use Rattle.lambdamix.specs.Limits.{maxBytes}
-use Rattle.script.specs.Tables.{over}
+use Rattle.lambdamix.specs.Checker.{Refusal}
+use Rattle.lambdamix.specs.Structure.{refusedUnless}
+use Rattle.script.specs.Tables.{writtenOutput}
 use Rattle.respond.specs.declared.Response.{Response}
-use Rattle.respond.specs.declared.Response.the-variants.{Printed, TooShort}
+use Rattle.respond.specs.declared.Response.the-variants.{Printed, Refused}
 use Rattle.respond.specs.Response.{response}
 
--- how many bytes were written, or that the output is too short
-unfoldable pub responded : Bool → List ℕ → Response
-responded true text = Printed (length text)
-responded false text = TooShort
+-- a reply: number, place, and the value that only a success carries
+pub record Reply (A : Type 0) : Type 0 where
+  pub number : ℕ
+  pub place : ℕ
+  pub carried : Option A
 
-unfoldable pub respondedOutput : Bool → List ℕ → List ℕ → List ℕ
-respondedOutput true text out = over text out
-respondedOutput false text out = out
+-- the reply where this refuses, if anything, and where a success carries a
+unfoldable pub replying : {A : Type 0} → Option Refusal → A → Reply A
+replying none a = record { number = 0; place = 0; carried = some a }
+replying (some f) a = record { number = f .number; place = f .place; carried = none }
+
+-- each case of the answer; a success carries how many bytes were printed
+unfoldable pub responseReply : Response → Reply ℕ
+responseReply (Printed k) = record { number = 0; place = 0; carried = some k }
+responseReply (Refused f) = record { number = f .number; place = f .place; carried = none }
+
+-- "21: output too short [0]": of an output that is too short for some answer
+unfoldable pub outputRefusal : List ℕ → Option Refusal
+outputRefusal out = refusedUnless (leb maxBytes (length out)) 21 0
 
 pub record Responds (input out left : List ℕ) (r : Response) : Type 0 where
-  pub reply : r ≡ responded (leb maxBytes (length out)) (response input)
-  pub output : left ≡ respondedOutput (leb maxBytes (length out)) (response input) out
+  pub reply : responseReply r ≡ replying (outputRefusal out) (length (response input))
+  pub output : left ≡ writtenOutput (outputRefusal out) (response input) out

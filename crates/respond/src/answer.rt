@@ -4,6 +4,7 @@ use crate::limits::MAX_BYTES;
 use crate::split::script_end;
 use crate::stage::answer_script;
 use file::reader::read;
+use script::Refusal;
 use script::limits::MAX_INPUTS;
 use script::limits::MAX_NODES;
 use script::limits::MAX_TYPES;
@@ -51,12 +52,15 @@ fn answer(input: &[u8], out: &mut [u8]) -> usize
     )
 }
 
-// Every input is answered by the bytes that the program prints for it.
+// Every input is answered by the bytes that the program prints for it. An output that may be too short for them is 21, before all else.
 pub fn respond(input: &[u8], out: &mut [u8]) -> Response
     ensures { λ r. ⌜ Responds (now (input .entry)) (now (out .entry)) (now (out .exit)) r ⌝ }
 {
     if MAX_BYTES <= out.len() {
         return Response::Printed(answer(input, out));
     }
-    Response::TooShort
+    Response::Refused(Refusal {
+        number: 21,
+        place: 0,
+    })
 }

@@ -6,8 +6,10 @@ mod settings;
 mod split;
 mod stage;
 
-// How many bytes were written, or that the output is too short.
+use script::Refusal;
+
+// How many bytes were printed, or a refusal.
 pub enum Response {
     Printed(usize),
-    TooShort,
+    Refused(Refusal),
 }

@@ -18,6 +18,6 @@ pub(crate) fn try_input(k: usize, input: &[u8]) {
     let mut out = [0u8; MAX_BYTES];
     match respond(input, &mut out) {
         Response::Printed(n) => print_text(k, &out, n),
-        Response::TooShort => print_text(k, b"too short", 9),
+        Response::Refused(_) => print_text(k, b"too short", 9),
     }
 }

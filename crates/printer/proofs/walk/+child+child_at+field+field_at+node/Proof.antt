@@ -130,7 +130,8 @@ node-given t = (
 )
 
 child-returns : (t : ℕ) → child-lts.Need-returns (child-given t) (child-now t) child.Post
-child-returns t c = child-placed _ _ _ _ (c .before .before .before .before .if1 .taken) (c .before .before .node .ensures)
+child-returns t c =
+    child-placed _ _ _ _ (omega (arith, c .before .before .before .before .if1 .taken)) (c .before .before .node .ensures)
 
 child-returns-2 : (t : ℕ) → child-lts.Need-returns-2 (child-given t) (child-now t) child.Post
 child-returns-2 t c =
@@ -138,7 +139,9 @@ child-returns-2 t c =
     (at-front (omega (arith, c .before .before .put-part .ok)) (c .before .before .put-part .ensures))
 
 child-at-returns : (t : ℕ) → child-at-lts.Need-returns (child-at-given t) (child-at-now t) child-at.Post
-child-at-returns t c = placed-rest (c .before .before .before .before .before .least .ensures) (c .before .before .before .child .ensures) (c .further .ensures)
+child-at-returns t c =
+    placed-rest (omega (arith, c .before .before .before .before .before .least .ensures)) (c .before .before .before .child .ensures)
+    (c .further .ensures)
 
 field-returns : (t : ℕ) → field-lts.Need-returns (field-given t) (field-now t) field.Post
 unfolding fieldText
@@ -167,7 +170,9 @@ unfolding fieldText
 field-returns-6 t c = rw (c .enum-told6 .given .1) (stays (omega arith))
 
 field-at-returns : (t : ℕ) → field-at-lts.Need-returns (field-at-given t) (field-at-now t) field-at.Post
-field-at-returns t c = placed-rest (c .before .before .before .before .before .least .ensures) (c .before .before .before .field .ensures) (c .further .ensures)
+field-at-returns t c =
+    placed-rest (omega (arith, c .before .before .before .before .before .least .ensures)) (c .before .before .before .field .ensures)
+    (c .further .ensures)
 
 node-field-at-requires : (t : ℕ) → node-lts.Need-field-at-requires (node-given t) (node-now t) node.Post
 node-field-at-requires t c κs =

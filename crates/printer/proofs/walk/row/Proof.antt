@@ -1,10 +1,17 @@
 -- `printer::walk::row` meets its contract: each arm reads the row of its own kind. Assumes nothing.
 use Prim.Native.Nat.{ℕ, _+_, _≤_}
 use mathlib.Core.Logic.{_≢_}
+use mathlib.Core.Path.{_≡_, _∙_}
 use native.Mathlib.Omega.{arith}
+use Rattle.script.specs.declared.Row.{Row}
+use Rattle.script.specs.KindRows.{rowAt}
 use Rattle.printer.proofs.NodeLaws.{past-kinds}
 use Rattle.printer.proofs.walk.row.Statement.{statement}
 use Rattle.printer.proofs.walk.row.Tie as tie
+
+-- the row that an arm reads is that of its own kind
+row-by : {r : Row} {j i k : ℕ} → r ≡ rowAt j → k ≡ i → i ≡ j → r ≡ rowAt k
+row-by e p q = e ∙ rw (p, q)
 
 zero-below : (k : ℕ) → 0 ≤ k
 zero-below k = omega arith
@@ -45,17 +52,17 @@ row-spec =
     (λ c κs. tt)
     (λ c κs. tt)
     (λ c κs. tt)
-    (λ c. rw (c .before .match .keys1) (c .row-of .ensures))
-    (λ c. rw (c .before .match .keys2) (c .row-of2 .ensures))
-    (λ c. rw (c .before .match .keys3) (c .row-of3 .ensures))
-    (λ c. rw (c .before .match .keys4) (c .row-of4 .ensures))
-    (λ c. rw (c .before .match .keys5) (c .row-of5 .ensures))
-    (λ c. rw (c .before .match .keys6) (c .row-of6 .ensures))
-    (λ c. rw (c .before .match .keys7) (c .row-of7 .ensures))
-    (λ c. rw (c .before .match .keys8) (c .row-of8 .ensures))
-    (λ c. rw (c .before .match .keys9) (c .row-of9 .ensures))
-    (λ c. rw (c .before .match .keys10) (c .row-of10 .ensures))
-    (λ c. rw (c .before .match .keys11) (c .row-of11 .ensures))
-    (λ c. rw (c .before .match .keys12) (c .row-of12 .ensures))
-    (λ c. rw (c .before .match .keys13) (c .row-of13 .ensures))
+    (λ c. row-by (c .row-of .ensures) (c .before .match .keys1) (omega arith))
+    (λ c. row-by (c .row-of2 .ensures) (c .before .match .keys2) (omega arith))
+    (λ c. row-by (c .row-of3 .ensures) (c .before .match .keys3) (omega arith))
+    (λ c. row-by (c .row-of4 .ensures) (c .before .match .keys4) (omega arith))
+    (λ c. row-by (c .row-of5 .ensures) (c .before .match .keys5) (omega arith))
+    (λ c. row-by (c .row-of6 .ensures) (c .before .match .keys6) (omega arith))
+    (λ c. row-by (c .row-of7 .ensures) (c .before .match .keys7) (omega arith))
+    (λ c. row-by (c .row-of8 .ensures) (c .before .match .keys8) (omega arith))
+    (λ c. row-by (c .row-of9 .ensures) (c .before .match .keys9) (omega arith))
+    (λ c. row-by (c .row-of10 .ensures) (c .before .match .keys10) (omega arith))
+    (λ c. row-by (c .row-of11 .ensures) (c .before .match .keys11) (omega arith))
+    (λ c. row-by (c .row-of12 .ensures) (c .before .match .keys12) (omega arith))
+    (λ c. row-by (c .row-of13 .ensures) (c .before .match .keys13) (omega arith))
     returns-14)

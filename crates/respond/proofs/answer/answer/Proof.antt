@@ -1,6 +1,5 @@
 -- `respond::answer::answer` meets its contract: by the reader's answer, on tables that are long enough. Assumes nothing.
 use mathlib.Core.Path.{refl, sym}
-use native.Mathlib.Nat.{le-refl}
 use native.Mathlib.Omega.{arith}
 use Rattle.lambdamix.specs.Limits.{maxTypes, maxInputs, maxNodes}
 use Rattle.script.specs.Columns.{enough}
@@ -14,7 +13,12 @@ use Rattle.respond.proofs.answer.answer.Tie as tie
 returns : tie.Need-returns
 unfolding byteAt longEnough enough maxTypes maxInputs maxNodes
 returns c =
-    input-answered _ refl (c .before .before .before .before .before .before .before .before .before .before .before .before .before .before .before .before .before .before .before .before .before .before .before .before .before .before .before .before .before .before .before .script-end .ensures) (c .before .before .before .before .before .before .before .before .before .before .before .before .before .before .before .before .before .before .before .before .before .read .ensures) refl (record { below = λ i. omega (arith, c .before .before .before .before .before .before .before .before .before .before .before .before .before .before .before .before .before .before .before .before .before .before .before .before .before .before .before .before .before .before .before .before .before .shared-slice-known .given i) }) (c .before .before .answer-script .ensures)
+    let s = c .before .before .before .before .before .before .before .before .before .before .before .before .before .before .before .before in
+    let h = s .before .before .before .before .before .before .before .before .before .before .before .before .before .before .before in
+    let e = h .script-end .ensures in
+    input-answered _ refl e (s .before .before .before .before .before .read .ensures) (omega (arith, e))
+    (record { below = λ i. omega (arith, h .before .before .shared-slice-known .given i) })
+    (c .before .before .answer-script .ensures)
 
 pub answer-spec : {M : Type 1} → statement M
 answer-spec =
@@ -33,9 +37,13 @@ answer-spec =
     (λ c. refl)
     (λ c. refl)
     (λ c κs. tt)
-    (λ c. end-within _ _ (c .before .before .before .before .before .before .before .before .before .before .before .before .before .before .before .before .before .before .script-end .ensures))
-    (λ c. end-within _ _ (c .before .before .before .before .before .before .before .before .before .before .before .before .before .before .before .before .before .before .script-end .ensures))
-    (λ c. le-refl _)
+    (λ c.
+    let h = c .before .before .before .before .before .before .before .before .before in
+    omega (arith, h .before .before .before .before .before .before .before .before .before .script-end .ensures))
+    (λ c.
+    let h = c .before .before .before .before .before .before .before .before .before in
+    end-within _ _ (h .before .before .before .before .before .before .before .before .before .script-end .ensures))
+    (λ c. omega arith)
     (λ c. sym (c .before .before .before .before .before .before .before .before .before .before .read .kept .1 .0))
     (λ c. sym (c .before .before .before .before .before .before .before .before .before .before .before .read .kept .1 .1 .0))
     (λ c. sym (c .before .before .before .before .before .before .before .before .before .before .before .before .read .kept .1 .1 .1 .0))

@@ -1,4 +1,4 @@
--- `respond::answer::respond` meets its contract: the output is long enough, or nothing is written. Assumes nothing.
+-- `respond::answer::respond` meets its contract: the output is long enough for every answer, or 21. Assumes nothing.
 use native.Mathlib.Omega.{arith}
 use Rattle.lambdamix.specs.Limits.{maxBytes}
 use Rattle.respond.proofs.Responding.{call-answered, call-short}
@@ -12,7 +12,7 @@ returns c = call-answered (omega arith) (omega (arith, c .before .before .before
 
 returns-2 : tie.Need-returns-2
 unfolding maxBytes
-returns-2 c = call-short (omega arith)
+returns-2 c = call-short (search needs) (search needs) (omega arith)
 
 pub respond-spec : {M : Type 1} → statement M
 respond-spec = tie.close (tie.spec (λ c κs. search needs) (λ c. search needs) returns returns-2)

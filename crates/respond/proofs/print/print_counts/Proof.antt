@@ -9,7 +9,8 @@ use Rattle.respond.proofs.print.print_counts.Tie as tie
 returns : tie.Need-returns
 unfolding ascii
 returns c =
-    counts-placed _ _ (omega (arith, c .before .before .before .before .before .before .before .fits .steps)) (omega (arith, c .before .before .before .before .before .before .before .fits .nodes)) (c .before .before .print-pair .ensures)
+    let s = c .before .before .before .before .before .before .before in
+    counts-placed _ _ (omega (arith, s .fits .steps)) (omega (arith, s .fits .nodes)) (cc) (cc) (c .before .before .print-pair .ensures)
 
 pub print-counts-spec : {M : Type 1} → statement M
 print-counts-spec =

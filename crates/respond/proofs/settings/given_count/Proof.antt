@@ -1,5 +1,8 @@
 -- `respond::settings::given_count` meets its contract: three tests. Assumes nothing.
+use Prim.Native.Nat.{_%_}
 use mathlib.Core.Path.{refl, sym, _∙_}
+use native.Mathlib.Omega.{arith}
+use lib.ListN.{length}
 use borrow.Author.Tests.{lt-ltb, le-ltb, eq-eqb, ne-eqb}
 use Rattle.respond.specs.Given.{givenBy}
 use Rattle.lambdamix.specs.Limits.{maxInputs}
@@ -15,7 +18,10 @@ all-marked-requires c κs = search needs
 
 returns : tie.Need-returns
 unfolding givenBy programSettings maxInputs
-returns c = given-by _ (lt-ltb _ _ (c .before .before .before .if1 .taken)) (eq-eqb _ _ (c .before .before .if2 .taken)) (sym (c .before .all-marked .ensures) ∙ c .if3 .taken)
+returns c =
+    let rest = length (c .before .before .before .before .before .args .s .now) in
+    given-by _ (lt-ltb _ _ (c .before .before .before .if1 .taken)) (eq-eqb (rest % 6) 0 (omega (arith, c .before .before .if2 .taken)))
+    (sym (c .before .all-marked .ensures) ∙ c .if3 .taken)
 
 returns-2 : tie.Need-returns-2
 unfolding givenBy programSettings maxInputs

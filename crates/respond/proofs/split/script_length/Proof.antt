@@ -3,7 +3,7 @@ use mathlib.Core.Path.{refl, sym, _∙_}
 use borrow.Author.Tests.{le-leb, lt-leb}
 use Rattle.file.proofs.HeadLaws.{counts-told, length-told}
 use Rattle.respond.specs.Response.{scriptLengthBy}
-use Rattle.respond.proofs.Splitting.{length-by}
+use Rattle.respond.proofs.Splitting.{same-size, length-by}
 use Rattle.respond.proofs.split.script_length.Statement.{statement}
 use Rattle.respond.proofs.split.script_length.Tie as tie
 
@@ -14,9 +14,11 @@ returns c = length-by _ (lt-leb _ _ (c .if1 .taken)) refl refl
 returns-2 : tie.Need-returns-2
 unfolding scriptLengthBy
 returns-2 c =
-    length-told _ (c .before .before .before .head-counts .ensures) (c .file-size .ensures)
-    ∙ length-by _ (le-leb _ _ (c .before .before .before .before .before .before .if1 .left)) (sym (c .before .before .before .before .before .marked .ensures) ∙ c .before .before .before .before .if2 .taken)
-    (counts-told _ (c .before .before .before .head-counts .ensures) (c .before .before .counts-right .ensures) (c .before .if3 .taken))
+    let n = c .before .before .before .head-counts .ensures in
+    length-told _ n (same-size (c .file-size .ensures) (cc) (cc) (cc))
+    ∙ length-by _ (le-leb _ _ (c .before .before .before .before .before .before .if1 .left))
+    (sym (c .before .before .before .before .before .marked .ensures) ∙ c .before .before .before .before .if2 .taken)
+    (counts-told _ n (c .before .before .counts-right .ensures) (c .before .if3 .taken))
 
 returns-3 : tie.Need-returns-3
 unfolding scriptLengthBy
