@@ -68,7 +68,12 @@ ScopedRow n xs i nd f r =
 scoped-rows : (n : ℕ) (xs : List ℕ) (i : ℕ) (nd : Node) (f : ℕ → Term) → All (ScopedRow n xs i nd f) rows
 unfolding All rows build terms childAt childFields ifChild fields unbound gathered unboundBy unboundFields unboundField unboundName keptIf lowest
 scoped-rows n xs i nd f =
-    (simp lowest-none, (simp lowest-none, (simp lowest-none, (refl, (simp lowest-none, (simp lowest-none, (refl, (simp lowest-none, (refl, (simp lowest-none, (simp lowest-none, (simp lowest-none, (simp lowest-none, tt)))))))))))))
+    also (simp lowest-none) (also (simp lowest-none) (also (simp lowest-none) (also refl (also (simp lowest-none) (also (simp lowest-none)
+    (also refl (also (simp lowest-none) (also refl (also (simp lowest-none) (also (simp lowest-none) (also (simp lowest-none)
+    (also (simp lowest-none) tt))))))))))))
+  where
+    also : {A B : Type 0} → A → B → A × B
+    also p q = (p, q)
 
 scoped-row : (n : ℕ) (xs : List ℕ) (i : ℕ) (nd : Node) (f : ℕ → Term) → ScopedRow n xs i nd f (rowOf nd)
 unfolding rowOf build terms childFields unbound gathered unboundBy unboundFields unboundField unboundName lowest

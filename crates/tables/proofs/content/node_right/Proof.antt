@@ -10,7 +10,9 @@ returns : tie.Need-returns
 returns c = c .fields-right .ensures ∙ of-constant _ _ _ _ _ _ _ (c .before .row-of .ensures) (omega arith) (omega arith) _
 
 returns-2 : tie.Need-returns-2
-returns-2 c = c .step-right .ensures ∙ of-kind _ _ _ _ _ _ _ (c .before .row-of2 .ensures) (omega arith) (omega arith) (omega arith) (c .before .before .before .fits .value)
+returns-2 c =
+    c .step-right .ensures ∙ of-kind _ _ _ _ _ _ _ (c .before .row-of2 .ensures) (omega arith) (omega arith) (omega arith)
+    (c .before .before .before .fits .value)
 
 returns-3 : tie.Need-returns-3
 returns-3 c = c .static-right .ensures ∙ held-value _ _ _ _ _ _ _ (c .before .before .before .fits .value)

@@ -93,11 +93,23 @@ abbrev field-claims : ℕ → tall-field-lts.Claims
 field-claims t = (is-child-reads.Asked, is-child-reads.Learnt, child-below t, tall-child.Post)
 
 abbrev fields-claims : ℕ → tall-fields-lts.Claims
-fields-claims t =
-    (field-a-reads.Asked, field-a-reads.Learnt, field-below t, tall-field.Post, field-b-reads.Asked, field-b-reads.Learnt, field-c-reads.Asked, field-c-reads.Learnt, tall-join-reads.Asked, tall-join-reads.Learnt)
+fields-claims t = (
+  field-a-reads.Asked,
+  field-a-reads.Learnt,
+  field-below t,
+  tall-field.Post,
+  field-b-reads.Asked,
+  field-b-reads.Learnt,
+  field-c-reads.Asked,
+  field-c-reads.Learnt,
+  tall-join-reads.Asked,
+  tall-join-reads.Learnt,
+)
 
 node-returns : (t : ℕ) → tall-lts.Need-returns (node-claims t) (node-at t) tall.Post
-node-returns t c = tall-node (c .before .before .before .before .args .nodes .now .now) _ (c .before .before .node-word .ensures) (c .before .tall-children .ensures) (c .tall-over .ensures)
+node-returns t c =
+    tall-node (c .before .before .before .before .args .nodes .now .now) _ (c .before .before .node-word .ensures)
+    (c .before .tall-children .ensures) (c .tall-over .ensures)
 
 child-returns : (t : ℕ) → tall-child-lts.Need-returns (child-claims t) (child-at t) tall-child.Post
 child-returns t c = heights.tall-child _ _ (c .before .if1 .taken) (c .tall .ensures)
@@ -111,8 +123,11 @@ field-returns t c = over-child _ _ _ (sym (c .before .before .is-child .ensures)
 
 fields-returns : (t : ℕ) → tall-fields-lts.Need-returns (fields-claims t) (fields-at t) tall-fields.Post
 fields-returns t c =
-    rw (← c .before .before .before .before .before .before .before .field-a .ensures, ← c .before .before .before .before .before .field-b .ensures, ← c .before .before .before .field-c .ensures)
-    (over-fields _ _ _ _ _ _ (c .before .before .before .before .before .before .tall-field .ensures) (c .before .before .before .before .tall-field2 .ensures) (c .before .before .tall-field3 .ensures) (c .before .tall-join .ensures) (c .tall-join2 .ensures))
+    let q = c .before .before .before .before in
+    let p = q .before .before in
+    rw (← p .before .field-a .ensures, ← q .before .field-b .ensures, ← c .before .before .before .field-c .ensures)
+    (over-fields _ _ _ _ _ _ (p .tall-field .ensures) (q .tall-field2 .ensures) (c .before .before .tall-field3 .ensures)
+    (c .before .tall-join .ensures) (c .tall-join2 .ensures))
 
 pub +tall+tall-child+tall-children+tall-field+tall-fields-spec : {M : Type 1} → statement M
 +tall+tall-child+tall-children+tall-field+tall-fields-spec =

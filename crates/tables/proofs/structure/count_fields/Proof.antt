@@ -6,8 +6,10 @@ use Rattle.tables.proofs.structure.count_fields.Tie as tie
 
 returns : tie.Need-returns
 returns c =
-    rw (← c .before .before .before .before .before .before .before .before .before .before .before .before .before .field-a .ensures, ← c .before .before .before .before .before .before .before .before .field-b .ensures, ← c .before .before .before .field-c .ensures)
-    (counted-fields _ _ _ _ (c .before .before .before .before .before .before .before .before .before .before .before .before .count-field .ensures) (c .before .before .before .before .before .before .before .count-field2 .ensures) (c .before .before .count-field3 .ensures))
+    let q = c .before .before .before .before .before .before .before in
+    let p = q .before .before .before .before .before in
+    rw (← p .before .field-a .ensures, ← q .before .field-b .ensures, ← c .before .before .before .field-c .ensures)
+    (counted-fields _ _ _ _ (p .count-field .ensures) (q .count-field2 .ensures) (c .before .before .count-field3 .ensures))
 
 pub count-fields-spec : {M : Type 1} → statement M
 count-fields-spec =

@@ -17,7 +17,9 @@ returns-2 c = rw (le-ltb _ _ (c .before .before .if1 .left), sym (c .before .is-
 
 returns-3 : tie.Need-returns-3
 unfolding unboundName unlessBound
-returns-3 c = rw (le-ltb _ _ (c .before .before .before .if1 .left), sym (c .before .before .is-bound .ensures) ∙ c .before .if2 .left) (node (c .before .before .before .before .before .pre .1) (c .lower .ensures))
+returns-3 c =
+    rw (le-ltb _ _ (c .before .before .before .if1 .left), sym (c .before .before .is-bound .ensures) ∙ c .before .if2 .left)
+    (node (c .before .before .before .before .before .pre .1) (c .lower .ensures))
 
 pub scope-name-spec : {M : Type 1} → statement M
 scope-name-spec = tie.close (tie.spec (λ c. search needs) returns (λ c κs. search needs) returns-2 (λ c κs. tt) returns-3)
