@@ -21,6 +21,8 @@ use Rattle.lambdamix.specs.Structure.{firstFailing, orElse, refusedUnless}
 use Rattle.lambdamix.proofs.Tests.{and-both}
 use Rattle.lambdamix.proofs.Signed.{held, same-bits}
 use Rattle.script.specs.Kinds.{useOf, usesTable}
+use Rattle.script.specs.KindRows.{rowAt}
+use Rattle.script.specs.declared.Row.{Row}
 use Rattle.lambdamix.specs.Code.{node}
 use Rattle.script.specs.declared.Found.{Found}
 use Rattle.script.specs.Refusals.{fieldRight, fieldsRight, nodeFits, isNone, otherPair, typeFits, inputFits, countsRight, refusedRecord, contentOf}
@@ -55,11 +57,10 @@ by-three (u ∷ v ∷ []) e = let z : ⊥ = omega arith in absurd z
 by-three (u ∷ v ∷ w ∷ []) e = refl
 by-three (u ∷ v ∷ w ∷ x ∷ us) e = let z : ⊥ = omega arith in absurd z
 
--- the uses that the table told, field by field, are its row
-pub row-told : (k : ℕ) → k < 13 → {u v w : Use} → u ≡ useOf k 0 → v ≡ useOf k 1 → w ≡ useOf k 2
-    → (u ∷ v ∷ w ∷ []) ≡ getD usesTable k []
-unfolding useOf
-row-told k h p q r = rw (p, q, r) (by-three (getD usesTable k []) (three-uses k h))
+-- a row that was read holds the table's uses
+row-told : {m k : ℕ} {r : Row} → r ≡ rowAt m → k ≡ m → m < 13 → (r .0 ∷ r .1 ∷ r .2 ∷ []) ≡ getD usesTable k []
+unfolding rowAt useOf
+row-told {m} e f h = rw (e, f) (by-three (getD usesTable m []) (three-uses m h))
 
 -- A row's test is the tests of its three fields, as they were answered.
 pub row-test : (t n j : ℕ) (u v w : Use) (a b c : ℕ) {x x′ y y′ z z′ : Bool}
@@ -78,17 +79,16 @@ module _ (t n j k a b c : ℕ) where
   unfolding nodeFits
   by-own-row v h = and-swap (eqb k 0 || eqZ v (pos 0)) (fieldsRight t n j (getD usesTable k []) (a ∷ b ∷ c ∷ [])) ∙ simp (lt-ltb k 13 h, row-is v)
 
-  same-row : (m : ℕ) → k ≡ m → {us : List Use} → us ≡ getD usesTable m [] → us ≡ getD usesTable k []
-  same-row m e r = r ∙ ap (λ (h : ℕ). getD usesTable h []) (sym e)
+  module _ {m : ℕ} {r : Row} (e : r ≡ rowAt m) where
+    -- What holds by the row of kind m holds of a node whose kind is m; its value comes as it is read back from its bits.
+    pub of-kind : k ≡ m → 0 < m → m < 13 → {v : ℤ} → SFits w32 v
+        → (eqZ (held w32 v) (pos 0) && fieldsRight t n j (r .0 ∷ r .1 ∷ r .2 ∷ []) (a ∷ b ∷ c ∷ [])) ≡ nodeFits t n (λ j. node k a b c v) j
+    of-kind f l h {v} g =
+        rw (toZ-ofZ g, row-told e f h) (rw (ne-eqb k 0 (λ p. omega arith)) at (by-own-row v (omega arith)))
 
-  -- What holds by the row of kind m holds of a node whose kind is m; its value comes as it is read back from its bits.
-  pub of-kind : (m : ℕ) → 0 < m → m < 13 → k ≡ m → {us : List Use} → us ≡ getD usesTable m [] → {v : ℤ} → SFits w32 v
-      → (eqZ (held w32 v) (pos 0) && fieldsRight t n j us (a ∷ b ∷ c ∷ [])) ≡ nodeFits t n (λ j. node k a b c v) j
-  of-kind m l h e r {v} f = rw (toZ-ofZ f, same-row m e r) (rw (ne-eqb k 0 (λ p. omega arith)) at (by-own-row v (omega arith)))
-
-  pub of-constant : k ≡ 0 → {us : List Use} → us ≡ getD usesTable 0 [] → (v : ℤ)
-      → fieldsRight t n j us (a ∷ b ∷ c ∷ []) ≡ nodeFits t n (λ j. node k a b c v) j
-  of-constant e r v = rw (same-row 0 e r) (rw (eq-eqb k 0 e) at (by-own-row v (omega arith)))
+    pub of-constant : k ≡ m → m ≡ 0 → (v : ℤ)
+        → fieldsRight t n j (r .0 ∷ r .1 ∷ r .2 ∷ []) (a ∷ b ∷ c ∷ []) ≡ nodeFits t n (λ j. node k a b c v) j
+    of-constant f g v = rw (row-told e f (omega arith)) (rw (eq-eqb k 0 (omega arith)) at (by-own-row v (omega arith)))
 
   pub held-value : {v : ℤ} → SFits w32 v → nodeFits t n (λ j. node k a b c (held w32 v)) j ≡ nodeFits t n (λ j. node k a b c v) j
   held-value f = ap (λ (z : ℤ). nodeFits t n (λ j. node k a b c z) j) (toZ-ofZ f)

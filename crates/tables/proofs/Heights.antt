@@ -1,9 +1,9 @@
 -- The walk of heights, as the code takes it: a height within the limit or the lowest node that is too high, in one number.
 -- Assumes nothing.
 use Prim.Native.Nat.{ℕ, suc, _+_, _-_, _≤_, _<_, max}
-use mathlib.Core.Path.{_≡_, refl, ap, _∙_}
+use mathlib.Core.Path.{_≡_, refl, sym, ap, _∙_}
 use mathlib.Core.Bool.{Bool, true, false}
-use mathlib.Core.List.{List, [], _∷_}
+use mathlib.Core.List.{List, []}
 use mathlib.Core.Option.{Option, none, some}
 use native.Mathlib.Omega.{arith}
 use native.Mathlib.Nat.{max-zero}
@@ -15,8 +15,9 @@ use Rattle.lambdamix.specs.Limits.{maxHeight}
 use Rattle.lambdamix.specs.Falling.{below}
 use Rattle.lambdamix.specs.Structure.{firstBy, lowest, lowestBy}
 use Rattle.lambdamix.proofs.Falling.{below-at, falling-step, below-out}
+use Rattle.script.specs.declared.Row.{Row}
 use Rattle.script.specs.Words.{Columns, columnsIn}
-use Rattle.tables.specs.Walks.{useAt, wordChildren, childrenAt, gathered, heightStep, heightAt, tooHighStep, tooHighAt, Tall, low, high, TallJoin, TallNode, TallOver}
+use Rattle.tables.specs.Walks.{isChild, keptIf, rowChildren, wordChildren, childrenAt, gathered, heightStep, heightAt, tooHighStep, tooHighAt, heightOver, Tall, low, high, TallJoin, TallNode, TallOver}
 
 pub lowest-none : (r : Option ℕ) → lowest r none ≡ r
 unfolding lowest
@@ -35,18 +36,27 @@ lowest-second i j h = go (leb i j) refl
     go true e = ap some (omega (arith, leb-true i j e))
     go false e = refl
 
+-- a field that may be a child, before others
+gathered-kept :
+    {A : Type 0} (join : A → A → A) (d : A) (self : ℕ → A) → ((y : A) → join d y ≡ y) → ((y : A) → join y d ≡ y)
+    → (b : Bool) (m : ℕ) (ms : List ℕ)
+    → gathered join d self (keptIf b m ms) ≡ join (gathered join d self (keptIf b m [])) (gathered join d self ms)
+unfolding gathered keptIf
+gathered-kept join d self l r true m ms = rw (r (self m))
+gathered-kept join d self l r false m ms = sym (l _)
+
 -- ---- a node over its children, which stand in its word
 
 module _ (ws : List ℕ) (i : ℕ) {w : ℕ} (e : w ≡ getD ws i 0) where
   pub word-children : childrenAt (columnsIn ws) i ≡ wordChildren w
-  unfolding childrenAt useAt wordChildren
+  unfolding childrenAt wordChildren
   word-children = rw e
 
-  pub word-height : heightAt (columnsIn ws) i ≡ suc (gathered max 0 (below i 1 (heightAt (columnsIn ws))) (wordChildren w))
-  unfolding heightAt heightStep
+  pub word-height : heightAt (columnsIn ws) i ≡ suc (heightOver (columnsIn ws) i (wordChildren w))
+  unfolding heightAt heightStep heightOver
   word-height =
       falling-step 1 (heightStep (columnsIn ws)) i
-      ∙ ap (λ (ms : List ℕ). suc (gathered max 0 (below i 1 (heightAt (columnsIn ws))) ms)) word-children
+      ∙ ap (λ (ms : List ℕ). suc (heightOver (columnsIn ws) i ms)) word-children
 
   word-too-high :
       tooHighAt (columnsIn ws) i
@@ -75,19 +85,45 @@ module _ (x : Columns) (i : ℕ) where
   unfolding maxHeight
   tall-stray {m} h = rw (below-out i 1 (heightAt x) m h, below-out i none (tooHighAt x) m h) (low {h = 1} (omega arith))
 
-  pub over-none : (ms : List ℕ) → ms ≡ [] → TallOver x i ms 0
-  unfolding gathered maxHeight
-  over-none ms e = rw e (low {h = 0} (omega arith))
+  pub over-none : {ms : List ℕ} → ms ≡ [] → TallOver x i ms 0
+  unfolding heightOver gathered maxHeight
+  over-none e = rw e (low {h = 0} (omega arith))
 
-  pub over-last : (m : ℕ) {r : ℕ} → Tall r (below i 1 (heightAt x) m) (below i none (tooHighAt x) m) → TallOver x i (m ∷ []) r
-  unfolding gathered
-  over-last m t = rw (max-zero (below i 1 (heightAt x) m), lowest-none (below i none (tooHighAt x) m)) t
+  -- a field that is a child, and one that is none
+  pub over-child :
+      (m : ℕ) {b : Bool} {r : ℕ} → b ≡ true → Tall r (below i 1 (heightAt x) m) (below i none (tooHighAt x) m)
+      → TallOver x i (keptIf b m []) r
+  unfolding heightOver gathered keptIf
+  over-child m e t = rw (e, max-zero (below i 1 (heightAt x) m), lowest-none (below i none (tooHighAt x) m)) t
 
-  pub over-more :
-      (m : ℕ) (ms : List ℕ) {p q r : ℕ} → Tall p (below i 1 (heightAt x) m) (below i none (tooHighAt x) m) → TallOver x i ms q
-      → TallJoin p q r → TallOver x i (m ∷ ms) r
-  unfolding gathered
-  over-more m ms t u j = j .joined _ _ _ _ t u
+  pub over-other : (m : ℕ) {b : Bool} → b ≡ false → TallOver x i (keptIf b m []) 0
+  unfolding keptIf
+  over-other m e = rw e (over-none refl)
+
+  over-kept :
+      (b : Bool) (m : ℕ) (ms : List ℕ) {p q r : ℕ} → TallOver x i (keptIf b m []) p → TallOver x i ms q → TallJoin p q r
+      → TallOver x i (keptIf b m ms) r
+  unfolding heightOver lowest
+  over-kept b m ms t u j =
+      rw (gathered-kept max 0 _ (λ y. omega arith) max-zero b m ms, gathered-kept lowest none _ (λ y. refl) lowest-none b m ms)
+      (j .joined _ _ _ _ t u)
+
+  module _ (row : Row) (a b c : ℕ) where
+    -- the three fields
+    pub over-fields :
+        {p q r s t : ℕ} → TallOver x i (keptIf (isChild (row .0)) a []) p → TallOver x i (keptIf (isChild (row .1)) b []) q
+        → TallOver x i (keptIf (isChild (row .2)) c []) r → TallJoin q r s → TallJoin p s t → TallOver x i (rowChildren row a b c) t
+    unfolding rowChildren
+    over-fields t u v j k = over-kept _ a _ t (over-kept _ b _ u v j) k
+
+    pub height-fields :
+        heightOver x i (rowChildren row a b c)
+        ≡ max (heightOver x i (keptIf (isChild (row .0)) a []))
+        (max (heightOver x i (keptIf (isChild (row .1)) b [])) (heightOver x i (keptIf (isChild (row .2)) c [])))
+    unfolding rowChildren heightOver
+    height-fields =
+        gathered-kept max 0 _ (λ y. omega arith) max-zero _ a _
+        ∙ ap (max _) (gathered-kept max 0 _ (λ y. omega arith) max-zero _ b _)
 
 -- ---- two answers in one
 

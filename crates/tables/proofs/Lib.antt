@@ -1,4 +1,4 @@
-pub mod Shapes
+pub mod OwnRow
 pub mod Heights
 pub mod UseCounts
 pub mod Lowest

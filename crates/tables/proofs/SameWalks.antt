@@ -12,11 +12,13 @@ use Rattle.lambdamix.specs.Script.{rows}
 use Rattle.lambdamix.specs.Falling.{falling}
 use Rattle.lambdamix.specs.Structure.{firstFailing, refusedAt, orElse, structureRefusal}
 use Rattle.lambdamix.proofs.Falling.{below-same, falling-step}
+use Rattle.script.specs.declared.Row.{Row}
 use Rattle.script.specs.Kinds.{useOf, usesTable}
+use Rattle.script.specs.KindRows.{rowAt}
 use Rattle.script.specs.Tables.{Tables, rowNode, tablesScript}
 use Rattle.script.specs.Refusals.{nodeFits}
 use Rattle.script.specs.Words.{Packed, Columns, columnsIn}
-use Rattle.tables.specs.Walks.{columnsOf, useAt, keptIf, childrenAt, usesBelow, usedOnceAt, heightStep, heightAt, tooHighStep, tooHighAt, unboundName, unboundUnder, unboundStep, unboundAt}
+use Rattle.tables.specs.Walks.{columnsOf, keptIf, rowChildren, childrenAt, usesBelow, usedOnceAt, heightStep, heightAt, tooHighStep, tooHighAt, unboundField, unboundFields, unboundBy, unboundStep, unboundAt}
 use Rattle.script.proofs.Searching.{first-same}
 use Rattle.tables.proofs.Agreement.{structure-agrees}
 
@@ -36,23 +38,25 @@ record SameAt (x y : Columns) (i : ℕ) : Type 0 where
   kind : x .kind i ≡ y .kind i
   fields : (y .kind i ≡ 0) ⊎ ((x .a i ≡ y .a i) × ((x .b i ≡ y .b i) × (x .c i ≡ y .c i)))
 
-module _ {x y : Columns} {i : ℕ} where
-  children-same : SameAt x y i → childrenAt x i ≡ childrenAt y i
-  unfolding childrenAt useAt useOf usesTable rows keptIf
-  children-same s =
-      ⊎-elim (λ e. constant (s .kind ∙ e) e) (λ e. rw (s .kind, e .0, e .1 .0, e .1 .1)) (s .fields)
+-- so what is told by the row of its kind is the same, if the row of a constant tells nothing of the fields
+module _ {x y : Columns} {i : ℕ} (s : SameAt x y i) where
+  by-row :
+      {A : Type 0} (f : Row → ℕ → ℕ → ℕ → A) → ((a b c d e g : ℕ) → f (rowAt 0) a b c ≡ f (rowAt 0) d e g)
+      → f (rowAt (x .kind i)) (x .a i) (x .b i) (x .c i) ≡ f (rowAt (y .kind i)) (y .a i) (y .b i) (y .c i)
+  by-row f z = ⊎-elim (λ e. constant (s .kind ∙ e) e) (λ e. rw (s .kind, e .0, e .1 .0, e .1 .1)) (s .fields)
     where
-      constant : x .kind i ≡ 0 → y .kind i ≡ 0 → childrenAt x i ≡ childrenAt y i
-      constant e f = rw (e, f)
+      constant :
+          x .kind i ≡ 0 → y .kind i ≡ 0
+          → f (rowAt (x .kind i)) (x .a i) (x .b i) (x .c i) ≡ f (rowAt (y .kind i)) (y .a i) (y .b i) (y .c i)
+      constant d e = rw (d, e) (z _ _ _ _ _ _)
 
-  unbound-same :
-      SameAt x y i → (n : ℕ) (self : ℕ → List ℕ → Option ℕ) (xs : List ℕ) → unboundStep x n self i xs ≡ unboundStep y n self i xs
-  unfolding unboundStep unboundUnder useAt useOf usesTable rows keptIf unboundName
-  unbound-same s n self xs =
-      ⊎-elim (λ e. constant (s .kind ∙ e) e) (λ e. rw (children-same s, s .kind, e .0)) (s .fields)
-    where
-      constant : x .kind i ≡ 0 → y .kind i ≡ 0 → unboundStep x n self i xs ≡ unboundStep y n self i xs
-      constant e f = rw (children-same s, e, f)
+  children-same : childrenAt x i ≡ childrenAt y i
+  unfolding childrenAt rowChildren rowAt useOf usesTable rows keptIf
+  children-same = by-row rowChildren (λ a b c d e g. refl)
+
+  unbound-same : (n : ℕ) (self : ℕ → List ℕ → Option ℕ) (xs : List ℕ) → unboundStep x n self i xs ≡ unboundStep y n self i xs
+  unfolding unboundStep unboundBy unboundFields unboundField rowAt useOf usesTable rows keptIf
+  unbound-same n self xs = by-row (unboundBy n self i xs) (λ a b c d e g. refl)
 
 module _ (x y : Columns) (n : ℕ) (same : (i : ℕ) → i < n → SameAt x y i) where
   uses-same : (m j : ℕ) → m ≤ n → usesBelow x m j ≡ usesBelow y m j

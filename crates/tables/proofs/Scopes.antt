@@ -1,7 +1,7 @@
 -- The walk that looks for unbound variables: the names around a node in a lent list, and one step of the walk, as the code takes
 -- it. Assumes nothing.
-use Prim.Native.Nat.{ℕ, zero, suc, _+_, _≤_, _<_, min}
-use mathlib.Core.Path.{_≡_, refl, ap, _∙_}
+use Prim.Native.Nat.{ℕ, zero, suc, _+_, _≤_, _<_}
+use mathlib.Core.Path.{_≡_, refl, sym, ap, _∙_}
 use mathlib.Core.Bool.{Bool, true, false}
 use mathlib.Core.List.{List, [], _∷_}
 use mathlib.Core.Option.{Option, none, some}
@@ -14,10 +14,13 @@ use borrow.Author.Tests.{leb-true, leb-false, eq-eqb, ne-eqb}
 use Rattle.lambdamix.specs.Falling.{below}
 use Rattle.lambdamix.specs.Structure.{lowest, lowestBy, member}
 use Rattle.lambdamix.proofs.Falling.{below-at, falling-step, below-out}
-use Rattle.script.specs.Words.{wordA, Columns, columnsIn}
-use Rattle.tables.specs.Walks.{useAt, keptIf, gathered, wordChildren, heightAt, unboundName, unboundUnder, unboundStep, unboundAt, innermost, Kept, Place, nowhere, node, Scoped}
-use Rattle.tables.proofs.Shapes.{shape, wordShape}
-use Rattle.tables.proofs.Heights.{lowest-none, word-children, word-height}
+use Rattle.lambdamix.specs.declared.Use.{Use}
+use Rattle.lambdamix.specs.declared.Use.the-variants.{Nothing, Child}
+use Rattle.script.specs.declared.Row.{Row}
+use Rattle.script.specs.KindRows.{rowAt}
+use Rattle.script.specs.Words.{wordKind, wordA, wordB, wordC, Columns, columnsIn}
+use Rattle.tables.specs.Walks.{isChild, isBinder, keptIf, rowChildren, wordChildren, gathered, heightAt, heightOver, unboundField, unboundFields, unboundBy, unboundStep, unboundAt, unboundBelow, innermost, Kept, Entered, Lower, same, node, Scoped}
+use Rattle.tables.proofs.Heights.{word-height, height-fields}
 
 -- kept names are the same list
 pub innermost-same : (d : ℕ) (xs ys : List ℕ) → Kept d xs ys → innermost ys d ≡ innermost xs d
@@ -45,6 +48,17 @@ unfolding innermost
 innermost-set xs d x h =
     rw (add-one d, getD-set-same xs d x 0 h, innermost-same d xs (set xs d x) (kept-set d xs x))
 
+-- a field that is a binder, and one that is none
+module _ {u : Use} (xs : List ℕ) (f d : ℕ) where
+  pub entered-binder : {e r : ℕ} → isBinder u ≡ true → d < length xs → e ≡ d → r ≡ d + 1 → Entered u f d xs (set xs e f) r
+  unfolding keptIf
+  entered-binder b h e g =
+      record { names = rw (b, e, g) (innermost-set xs d f h); kept = rw e (kept-set d xs f); least = omega arith; most = omega arith }
+
+  pub entered-other : isBinder u ≡ false → Entered u f d xs xs d
+  unfolding keptIf
+  entered-other b = record { names = rw b; kept = kept-all d xs; least = omega arith; most = omega arith }
+
 -- one name more is looked at: it is the one that is sought, or not
 module _ (xs : List ℕ) (d x : ℕ) {f g : Bool} (seen : f ≡ member x (innermost xs d)) where
   pub found-here : getD xs d 0 ≡ x → g ≡ true → g ≡ member x (innermost xs (d + 1))
@@ -57,121 +71,111 @@ module _ (xs : List ℕ) (d x : ℕ) {f g : Bool} (seen : f ≡ member x (innerm
 
 -- ---- places in one number
 
-pub place-lower : {p q : ℕ} {t u : Option ℕ} → Place p t → Place q u → Place (min p q) (lowest t u)
+lower-both : {l p q : ℕ} {t u : Option ℕ} → Lower l t p → Lower p u q → Lower l (lowest t u) q
 unfolding lowest lowestBy
-place-lower {p} {q} (nowhere e) (nowhere f) = nowhere {r = min p q} (omega arith)
-place-lower {p} {q} (nowhere e) (node b) = let f : min p q ≡ q = omega arith in rw f (node b)
-place-lower {p} {q} (node a) (nowhere f) = let e : min p q ≡ p = omega arith in rw e (node a)
-place-lower {p} {q} (node a) (node b) = go (leb p q) refl
+lower-both (same e) (same f) = same (f ∙ e)
+lower-both {l} {q = q} (same e) (node b f) = node {l = l} {r = q} b (omega arith)
+lower-both (node a e) (same f) = node a (f ∙ e)
+lower-both {l} {q = q} (node {j = i} a e) (node {j = j} b f) = go (leb i j) refl
   where
-    go : (b : Bool) → leb p q ≡ b → Place (min p q) (lowestBy b p q)
-    go true h = let e : min p q ≡ p = omega (arith, leb-true p q h) in rw e (node a)
-    go false h = let e : min p q ≡ q = omega (arith, leb-false p q h) in rw e (node b)
+    go : (b : Bool) → leb i j ≡ b → Lower l (lowestBy b i j) q
+    go true h = node {l = l} {r = q} a (omega (arith, leb-true i j h))
+    go false h = node {l = l} {r = q} b (omega (arith, leb-false i j h))
 
--- ---- a child
+-- ---- a child and a field
 
-module _ (x : Columns) (n i d : ℕ) where
-  -- the answer at a child of node i under some names
-  abbrev pub atChild : ℕ → List ℕ → Option ℕ
-  atChild m xs = below i (λ ys. none) (unboundAt x n) m xs
+pub scoped-none : {d l : ℕ} (xs : List ℕ) → Scoped none d l xs xs l
+scoped-none xs = record { found = same refl; kept = kept-all _ xs }
 
+module _ (x : Columns) (n i d : ℕ) {l : ℕ} where
   pub scoped-child :
-      {m r : ℕ} {xs ys : List ℕ} → m < i → Scoped (unboundAt x n m (innermost xs d)) d xs ys r
-      → Scoped (atChild m (innermost xs d)) d xs ys r
-  scoped-child {m} {xs = xs} l p =
-      rw (ap (λ (f : List ℕ → Option ℕ). f (innermost xs d)) (below-at i (λ ys. none) (unboundAt x n) m l)) p
+      {m r : ℕ} {xs ys : List ℕ} → m < i → Scoped (unboundAt x n m (innermost xs d)) d l xs ys r
+      → Scoped (unboundBelow x n i m (innermost xs d)) d l xs ys r
+  unfolding unboundBelow
+  scoped-child {m} {xs = xs} h p =
+      rw (ap (λ (f : List ℕ → Option ℕ). f (innermost xs d)) (below-at i (λ ys. none) (unboundAt x n) m h)) p
 
-  pub scoped-stray : {m : ℕ} (xs : List ℕ) → i ≤ m → Scoped (atChild m (innermost xs d)) d xs xs 65535
-  scoped-stray {m} xs l =
-      rw (below-out i (λ ys. none) (unboundAt x n) m l) (record { found = nowhere refl; kept = kept-all d xs })
+  pub scoped-stray : {m : ℕ} (xs : List ℕ) → i ≤ m → Scoped (unboundBelow x n i m (innermost xs d)) d l xs xs l
+  unfolding unboundBelow
+  scoped-stray {m} xs h = rw (below-out i (λ ys. none) (unboundAt x n) m h) (scoped-none xs)
 
-  -- some children, under the same names
-  abbrev pub Children : List ℕ → List ℕ → List ℕ → ℕ → Type 0
-  Children ms xs ys r = Scoped (gathered lowest none (λ m. atChild m (innermost xs d)) ms) d xs ys r
+-- one after the other, under the same names
+scoped-both :
+    (f g : List ℕ → Option ℕ) {d k l p q : ℕ} {xs ys zs : List ℕ} → Scoped (f (innermost xs d)) d l xs ys p
+    → Scoped (g (innermost ys d)) d k ys zs q → k ≡ p → Scoped (lowest (f (innermost xs d)) (g (innermost xs d))) d l xs zs q
+scoped-both f g {d} {xs = xs} {ys} s t e =
+    record { found = lower-both (s .found) (rw (e, innermost-same d xs ys (s .kept)) at (t .found)); kept = kept-both d (s .kept) (t .kept) }
 
-  pub scoped-none : (xs : List ℕ) → Children [] xs xs 65535
-  unfolding gathered
-  scoped-none xs = record { found = nowhere refl; kept = kept-all d xs }
+-- the three fields, each beside what was found before
+pub scoped-fields :
+    (n : ℕ) (self : ℕ → List ℕ → Option ℕ) (i : ℕ) (row : Row) (a b c : ℕ) {d e g h l p q s : ℕ} {us vs xs ys zs : List ℕ}
+    → Entered (row .0) a d us vs e → Scoped (unboundField n self i (innermost vs e) (row .0) a) e l vs xs p
+    → Scoped (unboundField n self i (innermost xs e) (row .1) b) e g xs ys q → g ≡ p
+    → Scoped (unboundField n self i (innermost ys e) (row .2) c) e h ys zs s → h ≡ q
+    → Scoped (unboundBy n self i (innermost us d) row a b c) d l us zs s
+unfolding unboundBy unboundFields
+scoped-fields n self i row a b c {d} {e} u p q f r g =
+    let at : Use → ℕ → List ℕ → Option ℕ = λ v m ns. unboundField n self i ns v m in
+    let z = scoped-both (at (row .0) a) (λ ns. lowest (at (row .1) b ns) (at (row .2) c ns)) p (scoped-both (at (row .1) b) (at (row .2) c) q r g) f in
+    record { found = rw (sym (u .names)) (z .found); kept = kept-both d (u .kept) (kept-less d e (u .least) (z .kept)) }
 
-  pub scoped-last : (m : ℕ) {r : ℕ} {xs ys : List ℕ} → Scoped (atChild m (innermost xs d)) d xs ys r → Children (m ∷ []) xs ys r
-  unfolding gathered
-  scoped-last m {xs = xs} p = rw (lowest-none (atChild m (innermost xs d))) p
-
-  pub scoped-more :
-      (m : ℕ) (ms : List ℕ) {p q r : ℕ} {xs ys zs : List ℕ} → Scoped (atChild m (innermost xs d)) d xs ys p → Children ms ys zs q → r ≡ min p q
-      → Children (m ∷ ms) xs zs r
-  unfolding gathered
-  scoped-more m ms {xs = xs} {ys} s t e =
-      record { found = rw e (place-lower (s .found) (rw (innermost-same d xs ys (s .kept)) at (t .found))); kept = kept-both d (s .kept) (t .kept) }
-
--- ---- a node over its children, which stand in its word
+-- ---- a node over its fields, which stand in its word
 
 module _ (ws : List ℕ) (n i : ℕ) {w : ℕ} (e : w ≡ getD ws i 0) where
   unbound-word :
       (xs : List ℕ)
       → unboundAt (columnsIn ws) n i xs
-      ≡ lowest (unboundName (wordShape w .name) n (keptIf (wordShape w .binder) (wordA w) xs) (wordA w) i)
-      (gathered lowest none (λ m. below i (λ ys. none) (unboundAt (columnsIn ws) n) m (keptIf (wordShape w .binder) (wordA w) xs)) (wordShape w .children))
-  unfolding unboundAt unboundStep unboundUnder useAt wordShape
+      ≡ unboundBy n (unboundBelow (columnsIn ws) n i) i xs (rowAt (wordKind w)) (wordA w) (wordB w) (wordC w)
+  unfolding unboundAt unboundStep unboundBelow
   unbound-word xs =
-      ap (λ (f : List ℕ → Option ℕ). f xs) (falling-step (λ zs. none) (unboundStep (columnsIn ws) n) i)
-      ∙ rw (word-children ws i e, ← e)
+      ap (λ (f : List ℕ → Option ℕ). f xs) (falling-step (λ zs. none) (unboundStep (columnsIn ws) n) i) ∙ rw e
 
-  module _ (d : ℕ) {ms xs ys : List ℕ} {r : ℕ} where
-    -- no variable and no binder
-    pub scoped-plain :
-        wordShape w ≡ shape false false ms → Children (columnsIn ws) n i d ms xs ys r
-        → Scoped (unboundAt (columnsIn ws) n i (innermost xs d)) d xs ys r
-    unfolding unboundName keptIf lowest
-    scoped-plain s p = rw (unbound-word (innermost xs d), s) p
+  module _ {d l : ℕ} where
+    -- by the row of its kind
+    pub scoped-row :
+        {row : Row} {xs ys : List ℕ} {r : ℕ} → rowAt (wordKind w) ≡ row
+        → Scoped (unboundBy n (unboundBelow (columnsIn ws) n i) i (innermost xs d) row (wordA w) (wordB w) (wordC w)) d l xs ys r
+        → Scoped (unboundAt (columnsIn ws) n i (innermost xs d)) d l xs ys r
+    scoped-row {xs = xs} f p = rw (unbound-word (innermost xs d), f) p
 
-    pub scoped-binder :
-        {a : ℕ} → a ≡ wordA w → d < length xs → wordShape w ≡ shape false true ms
-        → Children (columnsIn ws) n i (d + 1) ms (set xs d a) ys r
-        → Scoped (unboundAt (columnsIn ws) n i (innermost xs d)) d xs ys r
-    unfolding unboundName keptIf lowest
-    scoped-binder {a} f l s p =
-        record {
-          found = rw (unbound-word (innermost xs d), s, ← f) (rw (innermost-set xs d a l) at (p .found));
-          kept = kept-both d (kept-set d xs a) (kept-less d (d + 1) (omega arith) (p .kept));
-        }
+    -- past the table
+    pub scoped-past :
+        (xs : List ℕ) → rowAt (wordKind w) ≡ record { 0 = Nothing; 1 = Nothing; 2 = Nothing }
+        → Scoped (unboundAt (columnsIn ws) n i (innermost xs d)) d l xs xs l
+    unfolding unboundBy unboundFields unboundField lowest
+    scoped-past xs f = rw (unbound-word (innermost xs d), f) (scoped-none xs)
 
-  pub scoped-variable :
-      (d : ℕ) {a r : ℕ} (xs : List ℕ) → a ≡ wordA w → wordShape w ≡ shape true false []
-      → Place r (unboundName true n (innermost xs d) a i)
-      → Scoped (unboundAt (columnsIn ws) n i (innermost xs d)) d xs xs r
-  unfolding keptIf gathered
-  scoped-variable d xs f s p =
-      record {
-        found = rw (unbound-word (innermost xs d), s, ← f, lowest-none (unboundName true n (innermost xs d) _ i)) p;
-        kept = kept-all d xs;
-      }
+-- ---- room for the names around the children
 
--- ---- room for the names around a child
+-- the children by the row of the node's kind
+pub room-row :
+    (ws : List ℕ) (i : ℕ) {w : ℕ} {ms : List ℕ} (d k : ℕ) → w ≡ getD ws i 0 → wordChildren w ≡ ms
+    → d + heightAt (columnsIn ws) i ≤ k → d + 1 + heightOver (columnsIn ws) i ms ≤ k
+room-row ws i d k e f h = omega (arith, rw f at (word-height ws i e))
 
-module _ (ws : List ℕ) (i : ℕ) {w : ℕ} (e : w ≡ getD ws i 0) (d k : ℕ) (h : d + heightAt (columnsIn ws) i ≤ k) where
-  pub room-own : d < k
-  room-own = omega (arith, word-height ws i e)
+module _ (x : Columns) (i : ℕ) (row : Row) (a b c d : ℕ) {e f k : ℕ} where
+  module _ (h : d + 1 + heightOver x i (rowChildren row a b c) ≤ k) (l : e ≤ d + 1) where
+    pub room-a : f ≡ a → e + heightOver x i (keptIf (isChild (row .0)) f []) ≤ k
+    room-a g = rw g (omega (arith, height-fields x i row a b c))
 
-  pub room-first : (m : ℕ) {ms : List ℕ} → wordChildren w ≡ m ∷ ms → d + 1 + below i 1 (heightAt (columnsIn ws)) m ≤ k
-  unfolding gathered
-  room-first m f = omega (arith, rw f at (word-height ws i e))
+    pub room-b : f ≡ b → e + heightOver x i (keptIf (isChild (row .1)) f []) ≤ k
+    room-b g = rw g (omega (arith, height-fields x i row a b c))
 
-  pub room-second : {l : ℕ} (m : ℕ) {ms : List ℕ} → wordChildren w ≡ l ∷ m ∷ ms → d + 1 + below i 1 (heightAt (columnsIn ws)) m ≤ k
-  unfolding gathered
-  room-second m f = omega (arith, rw f at (word-height ws i e))
+    pub room-c : f ≡ c → e + heightOver x i (keptIf (isChild (row .2)) f []) ≤ k
+    room-c g = rw g (omega (arith, height-fields x i row a b c))
 
-  pub room-third :
-      {j l : ℕ} (m : ℕ) {ms : List ℕ} → wordChildren w ≡ j ∷ l ∷ m ∷ ms → d + 1 + below i 1 (heightAt (columnsIn ws)) m ≤ k
-  unfolding gathered
-  room-third m f = omega (arith, rw f at (word-height ws i e))
+pub room-child :
+    (x : Columns) (i m d k : ℕ) {u : Use} → u ≡ Child → d + heightOver x i (keptIf (isChild u) m []) ≤ k
+    → d + below i 1 (heightAt x) m ≤ k
+unfolding heightOver gathered keptIf
+room-child x i m d k e h = omega (arith, rw e at h)
 
 -- ---- the answer at the root
 
-pub place-none : {r : ℕ} {t : Option ℕ} → Place r t → r ≡ 65535 → t ≡ none
-place-none (nowhere e) f = refl
-place-none (node b) f = absurd (omega arith)
+pub place-none : {r : ℕ} {t : Option ℕ} → Lower 65535 t r → r ≡ 65535 → t ≡ none
+place-none (same e) f = refl
+place-none (node b e) f = absurd (omega arith)
 
-pub place-some : {r : ℕ} {t : Option ℕ} → Place r t → (r ≡ 65535 → ⊥) → t ≡ some r
-place-some (nowhere e) f = absurd (f e)
-place-some (node b) f = refl
+pub place-some : {r : ℕ} {t : Option ℕ} → Lower 65535 t r → (r ≡ 65535 → ⊥) → t ≡ some r
+place-some (same e) f = absurd (f e)
+place-some (node b e) f = ap some (omega arith)

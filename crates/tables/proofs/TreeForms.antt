@@ -4,7 +4,7 @@ use Prim.Native.Nat.{ℕ, zero, suc, _<_, max}
 use mathlib.Core.Path.{_≡_, refl, sym, ap, _∙_, fun-ext}
 use mathlib.Core.Bool.{Bool, true, false}
 use mathlib.Core.List.{List, [], _∷_}
-use mathlib.Core.Option.{Option, none}
+use mathlib.Core.Option.{Option}
 use native.Mathlib.Omega.{arith}
 use lib.ListN.{getD}
 use lib.Dec.{ltb}
@@ -16,9 +16,11 @@ use Rattle.lambdamix.specs.Script.{Script, Node, Row, rows, rowOf, blankRow, fi
 use Rattle.lambdamix.specs.Term.{Term, blankTerm, childAt, build, terms, treeStep, tree, height, heights}
 use Rattle.lambdamix.specs.Structure.{lowest, unbound}
 use Rattle.lambdamix.proofs.Falling.{falling-step}
+use Rattle.script.specs.declared.Row as kinds
 use Rattle.script.specs.Kinds.{useOf}
+use Rattle.script.specs.KindRows.{rowAt}
 use Rattle.script.specs.Tables.{Tables, rowNode}
-use Rattle.tables.specs.Walks.{columnsOf, useAt, isChild, isName, isBinder, keptIf, childrenAt, gathered, heightStep, heightAt, unboundName, unboundUnder, unboundStep, unboundAt}
+use Rattle.tables.specs.Walks.{columnsOf, isChild, keptIf, rowChildren, childrenAt, gathered, heightStep, heightAt, unboundName, unboundField, unboundFields, unboundBy, unboundStep, unboundAt}
 use Rattle.script.proofs.TableLaws.{row-uses}
 use Rattle.tables.proofs.Heights.{lowest-none}
 
@@ -53,20 +55,28 @@ unfolding terms heights gathered
 heights-gathered f [] = refl
 heights-gathered f (m ∷ ms) = ap (max (height (f m))) (heights-gathered f ms)
 
--- a row builds a term whose unbound variables are its own or those of the children that it uses
+-- the first three of some uses, as the code hands on a row
+abbrev firstThree : List Use → kinds.Row
+firstThree us = record { 0 = getD us 0 Nothing; 1 = getD us 1 Nothing; 2 = getD us 2 Nothing }
+
+-- a row builds a term whose unbound variables are told by the fields that it uses
 abbrev ScopedRow : ℕ → List ℕ → ℕ → Node → (ℕ → Term) → Row → Type 0
 ScopedRow n xs i nd f r =
     unbound n xs (build (r .step) i nd (terms f (childFields (r .uses) (fields nd))))
-    ≡ lowest (unboundName (isName (getD (r .uses) 0 Nothing)) n (keptIf (isBinder (getD (r .uses) 0 Nothing)) (nd .a) xs) (nd .a) i)
-    (gathered lowest none (λ m. unbound n (keptIf (isBinder (getD (r .uses) 0 Nothing)) (nd .a) xs) (f m)) (childFields (r .uses) (fields nd)))
+    ≡ unboundBy n (λ m ys. unbound n ys (f m)) i xs (firstThree (r .uses)) (nd .a) (nd .b) (nd .c)
 
 scoped-rows : (n : ℕ) (xs : List ℕ) (i : ℕ) (nd : Node) (f : ℕ → Term) → All (ScopedRow n xs i nd f) rows
-unfolding All rows build terms childAt childFields ifChild fields unbound gathered unboundName keptIf lowest
+unfolding All rows build terms childAt childFields ifChild fields unbound gathered unboundBy unboundFields unboundField unboundName keptIf lowest
 scoped-rows n xs i nd f =
-    (simp lowest-none, (simp lowest-none, (simp lowest-none, (simp lowest-none, (simp lowest-none, (simp lowest-none, (simp lowest-none, (simp lowest-none, (simp lowest-none, (simp lowest-none, (simp lowest-none, (simp lowest-none, (simp lowest-none, tt)))))))))))))
+    also (simp lowest-none) (also (simp lowest-none) (also (simp lowest-none) (also refl (also (simp lowest-none) (also (simp lowest-none)
+    (also refl (also (simp lowest-none) (also refl (also (simp lowest-none) (also (simp lowest-none) (also (simp lowest-none)
+    (also (simp lowest-none) tt))))))))))))
+  where
+    also : {A B : Type 0} → A → B → A × B
+    also p q = (p, q)
 
 scoped-row : (n : ℕ) (xs : List ℕ) (i : ℕ) (nd : Node) (f : ℕ → Term) → ScopedRow n xs i nd f (rowOf nd)
-unfolding rowOf build terms childFields unbound gathered unboundName lowest
+unfolding rowOf build terms childFields unbound gathered unboundBy unboundFields unboundField unboundName lowest
 scoped-row n xs i nd f = at-all (ScopedRow n xs i nd f) blankRow rows refl (scoped-rows n xs i nd f) (nd .kind)
 
 -- an answer on terms that goes by steps on the tree goes by the same steps on numbers
@@ -99,9 +109,8 @@ child-by-use Operation f fs = refl
 -- a list of uses keeps of three fields those that are children
 kept-fields :
     (us : List Use) (f g h : ℕ)
-    → childFields us (f ∷ g ∷ h ∷ [])
-    ≡ keptIf (isChild (getD us 0 Nothing)) f (keptIf (isChild (getD us 1 Nothing)) g (keptIf (isChild (getD us 2 Nothing)) h []))
-unfolding childFields keptIf
+    → childFields us (f ∷ g ∷ h ∷ []) ≡ rowChildren (firstThree us) f g h
+unfolding childFields rowChildren keptIf
 kept-fields [] f g h = refl
 kept-fields (u ∷ []) f g h = child-by-use u f []
 kept-fields (u ∷ v ∷ []) f g h = child-by-use u f _ ∙ ap (keptIf (isChild u) f) (child-by-use v g [])
@@ -111,16 +120,15 @@ kept-fields (u ∷ v ∷ w ∷ z ∷ us) f g h =
     child-by-use u f _ ∙ ap (keptIf (isChild u) f) (child-by-use v g _ ∙ ap (keptIf (isChild v) g) (child-by-use w h []))
 
 module _ (x : Tables) where
-  use-at : (i f : ℕ) → getD (rowOf (rowNode x i) .uses) f Nothing ≡ useAt (columnsOf x) i f
-  unfolding useAt useOf rowNode
-  use-at i f = ap (λ (us : List Use). getD us f Nothing) (row-uses (rowNode x i))
+  row-at : (i : ℕ) → firstThree (rowOf (rowNode x i) .uses) ≡ rowAt (getD (x .kinds) i 0)
+  unfolding rowAt useOf rowNode
+  row-at i = ap firstThree (row-uses (rowNode x i))
 
   -- the children of a node of the tables
   pub children-at : (i : ℕ) → children (rowNode x i) ≡ childrenAt (columnsOf x) i
   unfolding children childrenAt fields rowNode
   children-at i =
-      kept-fields (rowOf (rowNode x i) .uses) (getD (x .a) i 0) (getD (x .b) i 0) (getD (x .c) i 0)
-      ∙ rw (use-at i 0, use-at i 1, use-at i 2)
+      kept-fields (rowOf (rowNode x i) .uses) (getD (x .a) i 0) (getD (x .b) i 0) (getD (x .c) i 0) ∙ rw (row-at i)
 
   module _ (s : Script) (n : ℕ) (at : (i : ℕ) → i < n → nodeAt s i ≡ rowNode x i) where
     -- The walk's height is the height of the tree.
@@ -134,7 +142,7 @@ module _ (x : Tables) where
 
     -- The walk's unbound variable is the one of the tree.
     pub unbound-tree : (k : ℕ) (xs : List ℕ) (i : ℕ) → i < n → unbound k xs (tree s i) ≡ unboundAt (columnsOf x) k i xs
-    unfolding treeStep children rowNode unboundAt unboundStep unboundUnder unbound
+    unfolding treeStep children rowNode unboundAt unboundStep unbound
     unbound-tree k xs i l =
         ap (λ (f : List ℕ → Option ℕ). f xs)
         (tree-fold (λ t ys. unbound k ys t) (unboundStep (columnsOf x) k) s n step (suc i) i (omega arith) l)
@@ -142,4 +150,4 @@ module _ (x : Tables) where
         step : (self : ℕ → Term) (i : ℕ) → i < n
             → (λ ys. unbound k ys (treeStep s self i)) ≡ unboundStep (columnsOf x) k (λ m ys. unbound k ys (self m)) i
         step self i l =
-            fun-ext (λ ys. rw (at i l) (scoped-row k ys i (rowNode x i) self ∙ rw (use-at i 0, children-at i)))
+            fun-ext (λ ys. rw (at i l) (scoped-row k ys i (rowNode x i) self ∙ rw (row-at i)))

@@ -11,8 +11,7 @@ use lib.Seq.{getD-set-same, getD-set-other}
 use lib.Dec.{eqb}
 use borrow.Author.Tests.{eqb-true, eqb-false, eq-eqb, ne-eqb}
 use Rattle.lambdamix.specs.Structure.{oneIf, occurrences}
-use Rattle.lambdamix.specs.declared.Use.{Use}
-use Rattle.script.specs.Kinds.{useOf}
+use Rattle.script.specs.declared.Row.{Row}
 use Rattle.script.specs.Words.{columnsIn}
 use Rattle.tables.specs.Walks.{isChild, keptIf, rowChildren, wordChildren, usesBelow, Counted}
 use Rattle.tables.proofs.Heights.{word-children}
@@ -60,16 +59,15 @@ unfolding keptIf occurrences
 counted-field true m ms p q = counted-same (λ j. omega arith) (counted-both p q)
 counted-field false m ms p q = counted-same (λ j. omega arith) (counted-both p q)
 
--- the three fields, by the uses that the table told
+-- the three fields
 pub counted-fields :
-    (k : ℕ) (u v w : Use) {a a′ b b′ c c′ : ℕ} {ws xs ys zs : List ℕ}
-    → u ≡ useOf k 0 → v ≡ useOf k 1 → w ≡ useOf k 2 → a ≡ a′ → b ≡ b′ → c ≡ c′
-    → Counted (λ j. occurrences j (keptIf (isChild u) a [])) ws xs
-    → Counted (λ j. occurrences j (keptIf (isChild v) b [])) xs ys
-    → Counted (λ j. occurrences j (keptIf (isChild w) c [])) ys zs
-    → Counted (λ j. occurrences j (rowChildren k a′ b′ c′)) ws zs
-counted-fields k u v w d e f g h l p q r =
-    rw (← d, ← e, ← f, ← g, ← h, ← l) (counted-field (isChild u) _ _ p (counted-field (isChild v) _ _ q r))
+    (row : Row) (a b c : ℕ) {ws xs ys zs : List ℕ}
+    → Counted (λ j. occurrences j (keptIf (isChild (row .0)) a [])) ws xs
+    → Counted (λ j. occurrences j (keptIf (isChild (row .1)) b [])) xs ys
+    → Counted (λ j. occurrences j (keptIf (isChild (row .2)) c [])) ys zs
+    → Counted (λ j. occurrences j (rowChildren row a b c)) ws zs
+unfolding rowChildren
+counted-fields row a b c p q r = counted-field _ a _ p (counted-field _ b _ q r)
 
 -- the uses by one node more, which stands in a word
 pub counted-node :

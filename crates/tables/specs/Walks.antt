@@ -13,8 +13,9 @@ use Rattle.lambdamix.specs.declared.Use.the-variants.{Nothing, Name, Binder, Ch
 use Rattle.lambdamix.specs.Limits.{maxNodes, maxHeight}
 use Rattle.lambdamix.specs.Falling.{below, falling}
 use Rattle.lambdamix.specs.Structure.{firstBy, occurrences, lowest, member, unlessBound, structureRefusal}
+use Rattle.script.specs.declared.Row.{Row}
 use Rattle.script.specs.declared.Verdict.{Verdict}
-use Rattle.script.specs.Kinds.{useOf}
+use Rattle.script.specs.KindRows.{rowAt}
 use Rattle.script.specs.Refusals.{nodeFits}
 use Rattle.script.specs.Tables.{Tables, rowNode, tablesScript}
 use Rattle.script.specs.Words.{wordKind, wordA, wordB, wordC, Columns, Packed}
@@ -31,10 +32,7 @@ columnsOf x =
       value = λ i. getD (x .values) i (pos 0);
     }
 
--- the use of a field of node i
-unfoldable pub useAt : Columns → ℕ → ℕ → Use
-useAt x i f = useOf (x .kind i) f
-
+-- what a use asks of a walk
 abbrev pub isChild : Use → Bool
 isChild Nothing = false
 isChild Name = false
@@ -43,24 +41,30 @@ isChild Child = true
 isChild ParameterType = false
 isChild Operation = false
 
+abbrev pub isBinder : Use → Bool
+isBinder Nothing = false
+isBinder Name = false
+isBinder Binder = true
+isBinder Child = false
+isBinder ParameterType = false
+isBinder Operation = false
+
 -- a field in front of others, where a test holds
 unfoldable pub keptIf : Bool → ℕ → List ℕ → List ℕ
 keptIf true f fs = f ∷ fs
 keptIf false f fs = fs
 
--- the children of node i
-unfoldable pub childrenAt : Columns → ℕ → List ℕ
-childrenAt x i =
-    keptIf (isChild (useAt x i 0)) (x .a i)
-    (keptIf (isChild (useAt x i 1)) (x .b i) (keptIf (isChild (useAt x i 2)) (x .c i) []))
+-- the fields that are children by a row of the table
+unfoldable pub rowChildren : Row → ℕ → ℕ → ℕ → List ℕ
+rowChildren r a b c = keptIf (isChild (r .0)) a (keptIf (isChild (r .1)) b (keptIf (isChild (r .2)) c []))
 
--- the fields that are children by the table's row of kind k
-abbrev pub rowChildren : ℕ → ℕ → ℕ → ℕ → List ℕ
-rowChildren k a b c = keptIf (isChild (useOf k 0)) a (keptIf (isChild (useOf k 1)) b (keptIf (isChild (useOf k 2)) c []))
+-- the children of node i, by the row of its kind
+unfoldable pub childrenAt : Columns → ℕ → List ℕ
+childrenAt x i = rowChildren (rowAt (x .kind i)) (x .a i) (x .b i) (x .c i)
 
 -- the children of a node in a word
 unfoldable pub wordChildren : ℕ → List ℕ
-wordChildren w = rowChildren (wordKind w) (wordA w) (wordB w) (wordC w)
+wordChildren w = rowChildren (rowAt (wordKind w)) (wordA w) (wordB w) (wordC w)
 
 -- at how many places the first n nodes have j as a child
 unfoldable pub usesBelow : Columns → ℕ → ℕ → ℕ
@@ -100,22 +104,6 @@ pub data Tall : ℕ → ℕ → Option ℕ → Type 0 where
   low : {h : ℕ} → h ≤ maxHeight → Tall h h none
   high : {r h j : ℕ} → r ≡ maxHeight + 1 + j → maxHeight < h → j < 65536 → Tall r h (some j)
 
-abbrev pub isName : Use → Bool
-isName Nothing = false
-isName Name = true
-isName Binder = false
-isName Child = false
-isName ParameterType = false
-isName Operation = false
-
-abbrev pub isBinder : Use → Bool
-isBinder Nothing = false
-isBinder Name = false
-isBinder Binder = true
-isBinder Child = false
-isBinder ParameterType = false
-isBinder Operation = false
-
 -- the answers of two walks in one, and a node over the answer of its children
 pub record TallJoin (p q r : ℕ) : Type 0 where
   pub joined : (h g : ℕ) (t u : Option ℕ) → Tall p h t → Tall q g u → Tall r (max h g) (lowest t u)
@@ -123,25 +111,44 @@ pub record TallJoin (p q r : ℕ) : Type 0 where
 pub record TallNode (i p r : ℕ) : Type 0 where
   pub over : (h : ℕ) (t : Option ℕ) → Tall p h t → Tall r (suc h) (lowest (firstBy (leb (suc h) maxHeight) i none) t)
 
--- what a walk of heights answers of some children of node i
+-- the height of the highest of some children of node i, and what a walk of heights answers of them
+unfoldable pub heightOver : Columns → ℕ → List ℕ → ℕ
+heightOver x i ms = gathered max 0 (below i 1 (heightAt x)) ms
+
 abbrev pub TallOver : Columns → ℕ → List ℕ → ℕ → Type 0
-TallOver x i ms r = Tall r (gathered max 0 (below i 1 (heightAt x)) ms) (gathered lowest none (below i none (tooHighAt x)) ms)
+TallOver x i ms r = Tall r (heightOver x i ms) (gathered lowest none (below i none (tooHighAt x)) ms)
 
--- node i, if it is a variable that is no input and not among the names
-unfoldable pub unboundName : Bool → ℕ → List ℕ → ℕ → ℕ → Option ℕ
-unboundName true n xs x i = unlessBound (ltb x n || member x xs) i
-unboundName false n xs x i = none
+-- node i, if its name is no input's and not among the names
+unfoldable pub unboundName : ℕ → List ℕ → ℕ → ℕ → Option ℕ
+unboundName n xs x i = unlessBound (ltb x n || member x xs) i
 
--- the lowest unbound variable under a node, given the names around its children; names stand in field a
-unfoldable pub unboundUnder : Columns → ℕ → (ℕ → List ℕ → Option ℕ) → ℕ → List ℕ → Option ℕ
-unboundUnder x n self i xs =
-    lowest (unboundName (isName (useAt x i 0)) n xs (x .a i) i) (gathered lowest none (λ m. self m xs) (childrenAt x i))
+-- the lowest unbound variable by a field of node i, under some names: a name is tested, a child is walked
+unfoldable pub unboundField : ℕ → (ℕ → List ℕ → Option ℕ) → ℕ → List ℕ → Use → ℕ → Option ℕ
+unboundField n self i xs Nothing f = none
+unboundField n self i xs Name f = unboundName n xs f i
+unboundField n self i xs Binder f = none
+unboundField n self i xs Child f = self f xs
+unboundField n self i xs ParameterType f = none
+unboundField n self i xs Operation f = none
+
+unfoldable pub unboundFields : ℕ → (ℕ → List ℕ → Option ℕ) → ℕ → List ℕ → Row → ℕ → ℕ → ℕ → Option ℕ
+unboundFields n self i xs r a b c =
+    lowest (unboundField n self i xs (r .0) a)
+    (lowest (unboundField n self i xs (r .1) b) (unboundField n self i xs (r .2) c))
+
+-- by a row: a binder, which stands in field a, is around the fields
+unfoldable pub unboundBy : ℕ → (ℕ → List ℕ → Option ℕ) → ℕ → List ℕ → Row → ℕ → ℕ → ℕ → Option ℕ
+unboundBy n self i xs r a b c = unboundFields n self i (keptIf (isBinder (r .0)) a xs) r a b c
 
 unfoldable pub unboundStep : Columns → ℕ → (ℕ → List ℕ → Option ℕ) → ℕ → List ℕ → Option ℕ
-unboundStep x n self i xs = unboundUnder x n self i (keptIf (isBinder (useAt x i 0)) (x .a i) xs)
+unboundStep x n self i xs = unboundBy n self i xs (rowAt (x .kind i)) (x .a i) (x .b i) (x .c i)
 
 unfoldable pub unboundAt : Columns → ℕ → ℕ → List ℕ → Option ℕ
 unboundAt x n = falling (λ xs. none) (unboundStep x n)
+
+-- the same of a child of node i
+unfoldable pub unboundBelow : Columns → ℕ → ℕ → ℕ → List ℕ → Option ℕ
+unboundBelow x n i = below i (λ xs. none) (unboundAt x n)
 
 -- the first d names, the innermost first
 unfoldable pub innermost : List ℕ → ℕ → List ℕ
@@ -153,14 +160,21 @@ pub record Kept (d : ℕ) (before after : List ℕ) : Type 0 where
   pub same : length after ≡ length before
   pub names : (k : ℕ) → k < d → getD after k 0 ≡ getD before k 0
 
--- a place in one number: 65535 is none
-pub data Place : ℕ → Option ℕ → Type 0 where
-  nowhere : {r : ℕ} → r ≡ 65535 → Place r none
-  node : {j : ℕ} → j < 65535 → Place j (some j)
+-- after a field that may be a binder: the names around the children, how many they are, and that the others stay
+pub record Entered (u : Use) (f d : ℕ) (before after : List ℕ) (r : ℕ) : Type 0 where
+  pub names : innermost after r ≡ keptIf (isBinder u) f (innermost before d)
+  pub kept : Kept d before after
+  pub least : d ≤ r
+  pub most : r ≤ d + 1
 
--- what a walk finds, and that it leaves the names around it
-pub record Scoped (place : Option ℕ) (d : ℕ) (before after : List ℕ) (r : ℕ) : Type 0 where
-  pub found : Place r place
+-- the lower of a place and another, each in one number: 65535 is none
+pub data Lower : ℕ → Option ℕ → ℕ → Type 0 where
+  same : {l r : ℕ} → r ≡ l → Lower l none r
+  node : {l j r : ℕ} → j < 65535 → r ≡ min l j → Lower l (some j) r
+
+-- what a walk finds beside what was found before, and that it leaves the names around it
+pub record Scoped (place : Option ℕ) (d l : ℕ) (before after : List ℕ) (r : ℕ) : Type 0 where
+  pub found : Lower l place r
   pub kept : Kept d before after
 
 -- The structure check's answer of nodes in words: refusals 6 to 8 of a script whose nodes they are, if every node fits.

@@ -5,9 +5,11 @@ use script::Counts;
 use script::Found;
 use script::NodeNumber;
 use script::Refusal;
+use script::Row;
+use script::TypeNumber;
 use script::Verdict;
-use script::column::at16;
-use script::kinds::use_of;
+use script::column::type_at;
+use script::kinds::row_of;
 use script::limits::counts_right;
 use script::word::pack_node;
 ghost use mathlib.Core.Path.{_≡_};
@@ -15,22 +17,28 @@ ghost use Prim.Native.Nat.{min, _<_, _≤_};
 ghost use mathlib.Core.Bool.{_&&_};
 ghost use mathlib.Core.List.{[], _∷_};
 ghost use lib.IntN.{pos};
-ghost use lib.ListN.{getD, length};
+ghost use lib.ListN.{length};
+ghost use lib.Dec.{eqb};
 ghost use Rattle.lambdamix.specs.Arithmetic.{eqZ};
 ghost use Rattle.lambdamix.specs.Limits.{maxNodes};
 ghost use Rattle.lambdamix.specs.Structure.{firstFailing};
 ghost use Rattle.script.specs.Refusals.{otherPair, typeFits, inputFits, fieldRight, fieldsRight, nodeFits};
 ghost use Rattle.script.specs.Replies.{foundAt, refusalOf};
-ghost use Rattle.script.specs.Kinds.{usesTable};
 ghost use Rattle.lambdamix.specs.Code.{node};
 ghost use Rattle.script.specs.Columns.{typesIn, inputsIn, nodesIn};
 ghost use Rattle.script.specs.Tables.{tablesOf, contentIn};
 ghost use Rattle.tables.specs.PackedTables.{HoldNodes, PackedNodes, PackedTables};
 
-fn wide(x: u16) -> usize
-    ensures { λ r. ⌜ r ≡ x ⌝ }
+fn wide(t: TypeNumber) -> usize
+    ensures { λ r. ⌜ r ≡ t .0 ⌝ }
 {
-    x as usize
+    t.0 as usize
+}
+
+fn same_type(t: TypeNumber, u: TypeNumber) -> bool
+    ensures { λ r. ⌜ r ≡ eqb (t .0) (u .0) ⌝ }
+{
+    t.0 == u.0
 }
 
 // Whether a field of a node holds what its use asks for.
@@ -45,16 +53,6 @@ fn field_right(types: u16, inputs: u16, i: NodeNumber, u: Use, f: u16) -> bool
         Use::ParameterType => (f as usize) < 2 + (types as usize),
         Use::Operation => f < 6,
     }
-}
-
-// A row of the table: the uses of the fields a, b and c.
-struct Row(Use, Use, Use);
-
-fn row_of(kind: u8) -> Row
-    requires { ⌜ kind < 13 ⌝ }
-    ensures { λ r. ⌜ (r .0 ∷ r .1 ∷ r .2 ∷ []) ≡ getD usesTable kind [] ⌝ }
-{
-    Row(use_of(kind, 0), use_of(kind, 1), use_of(kind, 2))
 }
 
 // Whether the fields of a node hold what the row asks for.
@@ -165,8 +163,8 @@ fn node_right(
 fn other_pair(parameters: &[u16], results: &[u16], j: usize, i: usize) -> bool
     ensures { λ r. ⌜ r ≡ otherPair (typesIn (now (parameters .entry)) (now (results .entry))) j i ⌝ }
 {
-    if at16(parameters, i) == at16(parameters, j) {
-        return at16(results, i) != at16(results, j);
+    if same_type(type_at(parameters, i), type_at(parameters, j)) {
+        return !same_type(type_at(results, i), type_at(results, j));
     }
     true
 }
@@ -192,10 +190,10 @@ fn type_right(parameters: &[u16], results: &[u16], j: u16) -> bool
 {
     let at = j as usize;
     let own = 2 + at;
-    if own <= wide(at16(parameters, at)) {
+    if own <= wide(type_at(parameters, at)) {
         return false;
     }
-    if own <= wide(at16(results, at)) {
+    if own <= wide(type_at(results, at)) {
         return false;
     }
     match first_same_pair(parameters, results, at) {
@@ -222,7 +220,8 @@ fn first_bad_type(types: u16, parameters: &[u16], results: &[u16]) -> Found
 fn input_right(input_types: &[u16], j: usize) -> bool
     ensures { λ r. ⌜ r ≡ inputFits (inputsIn (now («input_types» .entry))) j ⌝ }
 {
-    at16(input_types, j) <= 1
+    let t = type_at(input_types, j);
+    t.0 <= 1
 }
 
 fn first_bad_input(inputs: u16, input_types: &[u16]) -> Found

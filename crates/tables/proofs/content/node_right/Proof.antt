@@ -7,10 +7,12 @@ use Rattle.tables.proofs.content.node_right.Statement.{statement}
 use Rattle.tables.proofs.content.node_right.Tie as tie
 
 returns : tie.Need-returns
-returns c = c .fields-right .ensures ∙ of-constant _ _ _ _ _ _ _ (c .before .before .match .keys1) (c .before .row-of .ensures) _
+returns c = c .fields-right .ensures ∙ of-constant _ _ _ _ _ _ _ (c .before .row-of .ensures) (omega arith) (omega arith) _
 
 returns-2 : tie.Need-returns-2
-returns-2 c = c .step-right .ensures ∙ of-kind _ _ _ _ _ _ _ 1 (omega arith) (omega arith) (c .before .before .match .keys2) (c .before .row-of2 .ensures) (c .before .before .before .fits .value)
+returns-2 c =
+    c .step-right .ensures ∙ of-kind _ _ _ _ _ _ _ (c .before .row-of2 .ensures) (omega arith) (omega arith) (omega arith)
+    (c .before .before .before .fits .value)
 
 returns-3 : tie.Need-returns-3
 returns-3 c = c .static-right .ensures ∙ held-value _ _ _ _ _ _ _ (c .before .before .before .fits .value)

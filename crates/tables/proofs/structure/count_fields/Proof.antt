@@ -6,21 +6,12 @@ use Rattle.tables.proofs.structure.count_fields.Tie as tie
 
 returns : tie.Need-returns
 returns c =
-    counted-fields _ (c .before .before .before .before .before .before .before .before .before .before .before .before .before .before .before .before .use-of .result) (c .before .before .before .before .before .before .before .before .before .before .use-of2 .result) (c .before .before .before .before .use-of3 .result) (rw (c .before .before .before .before .before .before .before .before .before .before .before .before .before .before .before .before .use-of .ensures)) (rw (c .before .before .before .before .before .before .before .before .before .before .use-of2 .ensures)) (rw (c .before .before .before .before .use-of3 .ensures))
-    (c .before .before .before .before .before .before .before .before .before .before .before .before .before .before .before .field-a .ensures) (c .before .before .before .before .before .before .before .before .before .field-b .ensures) (c .before .before .before .field-c .ensures) (c .before .before .before .before .before .before .before .before .before .before .before .before .before .before .count-field .ensures) (c .before .before .before .before .before .before .before .before .count-field2 .ensures) (c .before .before .count-field3 .ensures)
+    let q = c .before .before .before .before .before .before .before in
+    let p = q .before .before .before .before .before in
+    rw (← p .before .field-a .ensures, ← q .before .field-b .ensures, ← c .before .before .before .field-c .ensures)
+    (counted-fields _ _ _ _ (p .count-field .ensures) (q .count-field2 .ensures) (c .before .before .count-field3 .ensures))
 
 pub count-fields-spec : {M : Type 1} → statement M
 count-fields-spec =
     tie.close
-    (tie.spec
-    (λ c κs. tt)
-    (λ c κs. tt)
-    (λ c κs. tt)
-    (λ c κs. tt)
-    (λ c κs. tt)
-    (λ c κs. tt)
-    (λ c κs. tt)
-    (λ c κs. tt)
-    (λ c κs. tt)
-    (λ c. search needs)
-    returns)
+    (tie.spec (λ c κs. tt) (λ c κs. tt) (λ c κs. tt) (λ c κs. tt) (λ c κs. tt) (λ c κs. tt) (λ c. search needs) returns)

@@ -20,7 +20,12 @@ unfolding usesBelow
 loop-holds c = (search needs, counted-none _)
 
 loop-again : tie.Need-loop-again Inv-loop μ-loop
-loop-again c = (search needs, counted-node (c .before .before .before .before .before .before .before .before .before .args .nodes .now) (c .before .before .before .before .before .before .loop .i) (c .before .before .before .word-at .ensures) (c .before .before .before .before .before .before .loop .inv .1) (c .before .before .count-node .ensures))
+loop-again c = (
+  search needs,
+  counted-node (c .before .before .before .before .before .before .before .before .before .args .nodes .now)
+      (c .before .before .before .before .before .before .loop .i) (c .before .before .before .node-word .ensures)
+      (c .before .before .before .before .before .before .loop .inv .1) (c .before .before .count-node .ensures),
+)
 
 same-length : tie.Need-same-length Inv-loop μ-loop
 same-length c = c .before .loop .inv .1 .same
