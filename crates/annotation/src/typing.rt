@@ -1,22 +1,23 @@
-// The types of a script's nodes, found by recursion on falling node numbers: refusals 9, 10 and 11. The recursion passes on plain
-// numbers, references to arrays and a reference to a slice reference, and its answer is one number: anything else, a tuple struct
-// or a slice reference itself too, would go through memory.
+// The types of a script's nodes, found by recursion on falling node numbers: refusals 9, 10 and 11. An answer is one number, and the
+// nodes are lent by a reference to a slice reference: a struct that is returned and a slice reference itself go through memory.
 use script::Counts;
 use script::Name;
 use script::NodeNumber;
 use script::Refusal;
 use script::TypeNumber;
 use script::Verdict;
-use script::column::at16;
+use script::column::type_at;
 use script::limits::MAX_HEIGHT;
 use script::limits::MAX_INPUTS;
 use script::limits::MAX_TYPES;
 use script::place::root;
-use script::word::field_a;
-use script::word::field_b;
-use script::word::field_c;
+use script::word::child_a;
+use script::word::child_b;
+use script::word::child_c;
 use script::word::kind;
-use script::word::word_at;
+use script::word::name_a;
+use script::word::node_word;
+use script::word::type_b;
 ghost use Prim.Native.Nat.{_-_, _≤_};
 ghost use mathlib.Core.Path.{_≡_};
 ghost use mathlib.Core.Bool.{_&&_};
@@ -51,24 +52,43 @@ const FIRST_LISTED: u16 = 2;
 // What a place past the listed types holds: no pair of types.
 const UNLISTED: u32 = 4294967295;
 
-// A listed type, its parameter over its result, or a binder, its type over its name.
-fn pair(a: u16, b: u16) -> u32
-    ensures { λ r. ⌜ Pair r a b ⌝ }
-    ensures word { λ r. ⌜ r ≡ pairWord a b ⌝ }
+// A listed type: its parameter over its result.
+fn function_word(t: TypeNumber, u: TypeNumber) -> u32
+    ensures { λ r. ⌜ Pair r (t .0) (u .0) ⌝ }
+    ensures word { λ r. ⌜ r ≡ pairWord (t .0) (u .0) ⌝ }
 {
-    LIMIT_16 * (a as u32) + (b as u32)
+    LIMIT_16 * (t.0 as u32) + (u.0 as u32)
 }
 
-fn high(w: u32) -> u16
-    ensures { λ r. ⌜ r ≡ highHalf w ⌝ }
+fn parameter_of(w: u32) -> TypeNumber
+    ensures { λ r. ⌜ r .0 ≡ highHalf w ⌝ }
 {
-    (w / LIMIT_16) as u16
+    TypeNumber((w / LIMIT_16) as u16)
 }
 
-fn low(w: u32) -> u16
-    ensures { λ r. ⌜ r ≡ lowHalf w ⌝ }
+fn result_of(w: u32) -> TypeNumber
+    ensures { λ r. ⌜ r .0 ≡ lowHalf w ⌝ }
 {
-    (w % LIMIT_16) as u16
+    TypeNumber((w % LIMIT_16) as u16)
+}
+
+// A binder: its type over its name.
+fn binder_word(t: TypeNumber, x: Name) -> u32
+    ensures { λ r. ⌜ Pair r (t .0) (x .0) ⌝ }
+{
+    LIMIT_16 * (t.0 as u32) + (x.0 as u32)
+}
+
+fn binder_type(w: u32) -> TypeNumber
+    ensures { λ r. ⌜ r .0 ≡ highHalf w ⌝ }
+{
+    TypeNumber((w / LIMIT_16) as u16)
+}
+
+fn binder_name(w: u32) -> Name
+    ensures { λ r. ⌜ r .0 ≡ lowHalf w ⌝ }
+{
+    Name((w % LIMIT_16) as u16)
 }
 
 fn typed(t: TypeNumber) -> u32
@@ -87,7 +107,7 @@ fn fault(number: u8, i: NodeNumber) -> u32
 fn type_in(e: u32) -> TypeNumber
     ensures { λ r. ⌜ r .0 ≡ typeIn e ⌝ }
 {
-    TypeNumber(low(e))
+    TypeNumber((e % LIMIT_16) as u16)
 }
 
 // The fault at the lower node; where only one answer is a fault, that one.
@@ -134,7 +154,8 @@ fn application(types: &[u32], i: NodeNumber, f: TypeNumber, t: TypeNumber) -> u3
         return fault(9, i);
     }
     let w = listed(types, f);
-    given(high(w) == t.0, TypeNumber(low(w)), i)
+    let p = parameter_of(w);
+    given(p.0 == t.0, result_of(w), i)
 }
 
 // Fix: a function from a function type to that same type gives it.
@@ -145,8 +166,9 @@ fn fix(types: &[u32], i: NodeNumber, f: TypeNumber) -> u32
         return fault(9, i);
     }
     let w = listed(types, f);
-    let t = high(w);
-    given(both(FIRST_LISTED <= t, t == low(w)), TypeNumber(t), i)
+    let t = parameter_of(w);
+    let u = result_of(w);
+    given(both(FIRST_LISTED <= t.0, t.0 == u.0), t, i)
 }
 
 // Function: the type from t to u, which must be listed.
@@ -156,7 +178,7 @@ fn function(types: &[u32], i: NodeNumber, t: TypeNumber, u: TypeNumber) -> u32
     if types.len() < MAX_TYPES {
         return fault(10, i);
     }
-    let w = pair(t.0, u.0);
+    let w = function_word(t, u);
     let mut j: usize = 0;
     while j < MAX_TYPES {
         if types[j] == w {
@@ -178,8 +200,9 @@ fn variable(stack: &[u32], depth: usize, i: NodeNumber, x: Name) -> u32
     while 0 < d {
         d -= 1;
         let w = stack[d];
-        if low(w) == x.0 {
-            return typed(TypeNumber(high(w)));
+        let y = binder_name(w);
+        if y.0 == x.0 {
+            return typed(binder_type(w));
         }
     }
     fault(9, i)
@@ -258,7 +281,7 @@ fn parameter(w: u64) -> TypeNumber
     ensures { λ r. ⌜ r .0 ≡ pick (eqb (wordKind w) 3) (wordB w) 1 ⌝ }
 {
     match kind(w) {
-        3 => TypeNumber(field_b(w)),
+        3 => type_b(w),
         _ => TypeNumber(DYNAMIC),
     }
 }
@@ -289,13 +312,13 @@ fn node(
     types: &[u32; MAX_TYPES],
     stack: &mut [u32; STACK_PLACES],
     depth: usize,
-    i: u16,
+    i: NodeNumber,
 ) -> u32
-    ensures { λ r. ⌜ Answers (now (now (nodes .entry))) (now (types .entry)) (now (stack .entry)) (now (stack .exit)) depth i r ⌝ }
+    ensures { λ r. ⌜ Answers (now (now (nodes .entry))) (now (types .entry)) (now (stack .entry)) (now (stack .exit)) depth (i .0) r ⌝ }
 {
-    let w = word_at(*nodes, i);
+    let w = node_word(*nodes, i);
     match kind(w) {
-        1 => variable(stack, depth, NodeNumber(i), Name(field_a(w))),
+        1 => variable(stack, depth, i, name_a(w)),
         2 | 5 | 10 => one(nodes, types, stack, depth, i, w),
         3 | 8 => binder(nodes, types, stack, depth, i, w),
         4 | 7 | 9 | 12 => two(nodes, types, stack, depth, i, w),
@@ -310,12 +333,12 @@ fn child(
     types: &[u32; MAX_TYPES],
     stack: &mut [u32; STACK_PLACES],
     depth: usize,
-    i: u16,
-    m: u16,
+    i: NodeNumber,
+    m: NodeNumber,
 ) -> u32
-    ensures { λ r. ⌜ ChildAnswers (now (now (nodes .entry))) (now (types .entry)) (now (stack .entry)) (now (stack .exit)) depth i m r ⌝ }
+    ensures { λ r. ⌜ ChildAnswers (now (now (nodes .entry))) (now (types .entry)) (now (stack .entry)) (now (stack .exit)) depth (i .0) (m .0) r ⌝ }
 {
-    if m < i {
+    if m.0 < i.0 {
         return node(nodes, types, stack, depth, m);
     }
     typed(TypeNumber(DYNAMIC))
@@ -326,14 +349,14 @@ fn one(
     types: &[u32; MAX_TYPES],
     stack: &mut [u32; STACK_PLACES],
     depth: usize,
-    i: u16,
+    i: NodeNumber,
     w: u64,
 ) -> u32
-    requires { ⌜ WordOf (now (now nodes)) i w OneChild ⌝ }
-    ensures { λ r. ⌜ Answers (now (now (nodes .entry))) (now (types .entry)) (now (stack .entry)) (now (stack .exit)) depth i r ⌝ }
+    requires { ⌜ WordOf (now (now nodes)) (i .0) w OneChild ⌝ }
+    ensures { λ r. ⌜ Answers (now (now (nodes .entry))) (now (types .entry)) (now (stack .entry)) (now (stack .exit)) depth (i .0) r ⌝ }
 {
-    let e = child(nodes, types, stack, depth, i, field_a(w));
-    one_rule(types, kind(w), NodeNumber(i), e)
+    let e = child(nodes, types, stack, depth, i, child_a(w));
+    one_rule(types, kind(w), i, e)
 }
 
 fn two(
@@ -341,15 +364,15 @@ fn two(
     types: &[u32; MAX_TYPES],
     stack: &mut [u32; STACK_PLACES],
     depth: usize,
-    i: u16,
+    i: NodeNumber,
     w: u64,
 ) -> u32
-    requires { ⌜ WordOf (now (now nodes)) i w TwoChildren ⌝ }
-    ensures { λ r. ⌜ Answers (now (now (nodes .entry))) (now (types .entry)) (now (stack .entry)) (now (stack .exit)) depth i r ⌝ }
+    requires { ⌜ WordOf (now (now nodes)) (i .0) w TwoChildren ⌝ }
+    ensures { λ r. ⌜ Answers (now (now (nodes .entry))) (now (types .entry)) (now (stack .entry)) (now (stack .exit)) depth (i .0) r ⌝ }
 {
-    let e = child(nodes, types, stack, depth, i, field_a(w));
-    let f = child(nodes, types, stack, depth, i, field_b(w));
-    two_rule(types, kind(w), NodeNumber(i), e, f)
+    let e = child(nodes, types, stack, depth, i, child_a(w));
+    let f = child(nodes, types, stack, depth, i, child_b(w));
+    two_rule(types, kind(w), i, e, f)
 }
 
 fn three(
@@ -357,19 +380,19 @@ fn three(
     types: &[u32; MAX_TYPES],
     stack: &mut [u32; STACK_PLACES],
     depth: usize,
-    i: u16,
+    i: NodeNumber,
     w: u64,
 ) -> u32
-    requires { ⌜ WordOf (now (now nodes)) i w ThreeChildren ⌝ }
-    ensures { λ r. ⌜ Answers (now (now (nodes .entry))) (now (types .entry)) (now (stack .entry)) (now (stack .exit)) depth i r ⌝ }
+    requires { ⌜ WordOf (now (now nodes)) (i .0) w ThreeChildren ⌝ }
+    ensures { λ r. ⌜ Answers (now (now (nodes .entry))) (now (types .entry)) (now (stack .entry)) (now (stack .exit)) depth (i .0) r ⌝ }
 {
-    let a = field_a(w);
-    let b = field_b(w);
-    let c = field_c(w);
+    let a = child_a(w);
+    let b = child_b(w);
+    let c = child_c(w);
     let e = child(nodes, types, stack, depth, i, a);
     let f = child(nodes, types, stack, depth, i, b);
     let g = child(nodes, types, stack, depth, i, c);
-    three_rule(types, kind(w), NodeNumber(i), e, f, g)
+    three_rule(types, kind(w), i, e, f, g)
 }
 
 fn binder(
@@ -377,16 +400,16 @@ fn binder(
     types: &[u32; MAX_TYPES],
     stack: &mut [u32; STACK_PLACES],
     depth: usize,
-    i: u16,
+    i: NodeNumber,
     w: u64,
 ) -> u32
-    requires { ⌜ WordOf (now (now nodes)) i w BindsName ⌝ }
-    ensures { λ r. ⌜ Answers (now (now (nodes .entry))) (now (types .entry)) (now (stack .entry)) (now (stack .exit)) depth i r ⌝ }
+    requires { ⌜ WordOf (now (now nodes)) (i .0) w BindsName ⌝ }
+    ensures { λ r. ⌜ Answers (now (now (nodes .entry))) (now (types .entry)) (now (stack .entry)) (now (stack .exit)) depth (i .0) r ⌝ }
 {
     let p = parameter(w);
-    let inner = push(stack, depth, pair(p.0, field_a(w)));
-    let e = child(nodes, types, stack, inner, i, field_c(w));
-    binder_rule(types, kind(w), p, NodeNumber(i), e)
+    let inner = push(stack, depth, binder_word(p, name_a(w)));
+    let e = child(nodes, types, stack, inner, i, child_c(w));
+    binder_rule(types, kind(w), p, i, e)
 }
 
 // The words of the listed types, over places that hold none.
@@ -397,7 +420,7 @@ fn pack_types(parameters: &[u16], results: &[u16], count: u16, types: &mut [u32]
     let n = count as usize;
     let mut j: usize = 0;
     while j < n {
-        let w = pair(at16(parameters, j), at16(results, j));
+        let w = function_word(type_at(parameters, j), type_at(results, j));
         put(types, j, w);
         j += 1;
     }
@@ -409,7 +432,7 @@ fn bind_inputs(inputs: &[u16], count: u16, stack: &mut [u32])
 {
     let mut j: u16 = 0;
     while j < count {
-        let w = pair(at16(inputs, j as usize), j);
+        let w = binder_word(type_at(inputs, j as usize), Name(j));
         put(stack, (count - 1 - j) as usize, w);
         j += 1;
     }
@@ -451,5 +474,5 @@ pub fn annotation_refusal(
     bind_inputs(inputs, n.inputs, &mut stack);
     let i = root(n.nodes);
     let depth = n.inputs as usize;
-    verdict(i, node(&nodes, &types, &mut stack, depth, i.0))
+    verdict(i, node(&nodes, &types, &mut stack, depth, i))
 }

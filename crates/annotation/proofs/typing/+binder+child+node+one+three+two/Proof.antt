@@ -27,38 +27,39 @@ use Rattle.annotation.proofs.typing.two.Kinds as two-kinds
 use Rattle.annotation.proofs.typing.+binder+child+node+one+three+two.Lts-two as two-lts
 use Rattle.annotation.proofs.typing.binder_rule.Reads as binder-rule-reads
 use Rattle.annotation.proofs.typing.one_rule.Reads as one-rule-reads
-use Rattle.annotation.proofs.typing.pair.Reads as pair-reads
+use Rattle.annotation.proofs.typing.binder_word.Reads as binder-word-reads
 use Rattle.annotation.proofs.typing.parameter.Reads as parameter-reads
 use Rattle.annotation.proofs.typing.push.Reads as push-reads
 use Rattle.annotation.proofs.typing.three_rule.Reads as three-rule-reads
 use Rattle.annotation.proofs.typing.two_rule.Reads as two-rule-reads
 use Rattle.annotation.proofs.typing.typed.Reads as typed-reads
 use Rattle.annotation.proofs.typing.variable.Reads as variable-reads
-use Rattle.script.proofs.word.field_a.Reads as field-a-reads
-use Rattle.script.proofs.word.field_b.Reads as field-b-reads
-use Rattle.script.proofs.word.field_c.Reads as field-c-reads
+use Rattle.script.proofs.word.child_a.Reads as child-a-reads
+use Rattle.script.proofs.word.child_b.Reads as child-b-reads
+use Rattle.script.proofs.word.child_c.Reads as child-c-reads
 use Rattle.script.proofs.word.kind.Reads as kind-reads
-use Rattle.script.proofs.word.word_at.Reads as word-at-reads
+use Rattle.script.proofs.word.name_a.Reads as name-a-reads
+use Rattle.script.proofs.word.node_word.Reads as node-word-reads
 use Rattle.annotation.proofs.typing.+binder+child+node+one+three+two.{statement}
 use Rattle.annotation.proofs.typing.+binder+child+node+one+three+two.Tie.{close}
 
 abbrev μ-binder : Measures 4 binder-kinds.ps ℕ
-μ-binder κs a = 3 * a .1 .1 .1 .1 .0 + 1
+μ-binder κs a = 3 * a .1 .1 .1 .1 .0 .0 + 1
 
 abbrev μ-child : Measures 4 child-kinds.ps ℕ
-μ-child κs a = 3 * a .1 .1 .1 .1 .0
+μ-child κs a = 3 * a .1 .1 .1 .1 .0 .0
 
 abbrev μ-node : Measures 4 node-kinds.ps ℕ
-μ-node κs a = 3 * a .1 .1 .1 .1 .0 + 2
+μ-node κs a = 3 * a .1 .1 .1 .1 .0 .0 + 2
 
 abbrev μ-one : Measures 4 one-kinds.ps ℕ
-μ-one κs a = 3 * a .1 .1 .1 .1 .0 + 1
+μ-one κs a = 3 * a .1 .1 .1 .1 .0 .0 + 1
 
 abbrev μ-three : Measures 4 three-kinds.ps ℕ
-μ-three κs a = 3 * a .1 .1 .1 .1 .0 + 1
+μ-three κs a = 3 * a .1 .1 .1 .1 .0 .0 + 1
 
 abbrev μ-two : Measures 4 two-kinds.ps ℕ
-μ-two κs a = 3 * a .1 .1 .1 .1 .0 + 1
+μ-two κs a = 3 * a .1 .1 .1 .1 .0 .0 + 1
 
 abbrev binder-at : ℕ → In 4 binder-kinds.ps
 binder-at t = and 4 binder-kinds.ps (is 4 binder-kinds.ps μ-binder t) binder.Pre
@@ -98,22 +99,22 @@ two-below t = and 4 two-kinds.ps (falls 4 two-kinds.ps _<_ μ-two t) two.Pre
 
 -- what each knows of those it calls
 abbrev binder-calls : ℕ → binder-lts.Claims
-binder-calls t = (parameter-reads.Asked, parameter-reads.Learnt, field-a-reads.Asked, field-a-reads.Learnt, pair-reads.Asked, pair-reads.Learnt, push-reads.Asked, push-reads.Learnt, field-c-reads.Asked, field-c-reads.Learnt, child-below t, child.Post, kind-reads.Asked, kind-reads.Learnt, binder-rule-reads.Asked, binder-rule-reads.Learnt)
+binder-calls t = (parameter-reads.Asked, parameter-reads.Learnt, name-a-reads.Asked, name-a-reads.Learnt, binder-word-reads.Asked, binder-word-reads.Learnt, push-reads.Asked, push-reads.Learnt, child-c-reads.Asked, child-c-reads.Learnt, child-below t, child.Post, kind-reads.Asked, kind-reads.Learnt, binder-rule-reads.Asked, binder-rule-reads.Learnt)
 
 abbrev child-calls : ℕ → child-lts.Claims
 child-calls t = (node-below t, node.Post, typed-reads.Asked, typed-reads.Learnt)
 
 abbrev node-calls : ℕ → node-lts.Claims
-node-calls t = (word-at-reads.Asked, word-at-reads.Learnt, kind-reads.Asked, kind-reads.Learnt, field-a-reads.Asked, field-a-reads.Learnt, variable-reads.Asked, variable-reads.Learnt, one-below t, one.Post, binder-below t, binder.Post, two-below t, two.Post, three-below t, three.Post, typed-reads.Asked, typed-reads.Learnt)
+node-calls t = (node-word-reads.Asked, node-word-reads.Learnt, kind-reads.Asked, kind-reads.Learnt, name-a-reads.Asked, name-a-reads.Learnt, variable-reads.Asked, variable-reads.Learnt, one-below t, one.Post, binder-below t, binder.Post, two-below t, two.Post, three-below t, three.Post, typed-reads.Asked, typed-reads.Learnt)
 
 abbrev one-calls : ℕ → one-lts.Claims
-one-calls t = (field-a-reads.Asked, field-a-reads.Learnt, child-below t, child.Post, kind-reads.Asked, kind-reads.Learnt, one-rule-reads.Asked, one-rule-reads.Learnt)
+one-calls t = (child-a-reads.Asked, child-a-reads.Learnt, child-below t, child.Post, kind-reads.Asked, kind-reads.Learnt, one-rule-reads.Asked, one-rule-reads.Learnt)
 
 abbrev three-calls : ℕ → three-lts.Claims
-three-calls t = (field-a-reads.Asked, field-a-reads.Learnt, field-b-reads.Asked, field-b-reads.Learnt, field-c-reads.Asked, field-c-reads.Learnt, child-below t, child.Post, kind-reads.Asked, kind-reads.Learnt, three-rule-reads.Asked, three-rule-reads.Learnt)
+three-calls t = (child-a-reads.Asked, child-a-reads.Learnt, child-b-reads.Asked, child-b-reads.Learnt, child-c-reads.Asked, child-c-reads.Learnt, child-below t, child.Post, kind-reads.Asked, kind-reads.Learnt, three-rule-reads.Asked, three-rule-reads.Learnt)
 
 abbrev two-calls : ℕ → two-lts.Claims
-two-calls t = (field-a-reads.Asked, field-a-reads.Learnt, child-below t, child.Post, field-b-reads.Asked, field-b-reads.Learnt, kind-reads.Asked, kind-reads.Learnt, two-rule-reads.Asked, two-rule-reads.Learnt)
+two-calls t = (child-a-reads.Asked, child-a-reads.Learnt, child-below t, child.Post, child-b-reads.Asked, child-b-reads.Learnt, kind-reads.Asked, kind-reads.Learnt, two-rule-reads.Asked, two-rule-reads.Learnt)
 
 binder-child-requires : (t : ℕ) → binder-lts.Need-child-requires (binder-calls t) (binder-at t) binder.Post
 binder-child-requires t c κs = (omega (arith, c .before .before .before .before .before .before .before .pre .0), tt)
@@ -122,7 +123,7 @@ binder-returns : (t : ℕ) → binder-lts.Need-returns (binder-calls t) (binder-
 binder-returns t c = search (at-binder, arith)
 
 child-node-requires : (t : ℕ) → child-lts.Need-node-requires (child-calls t) (child-at t) child.Post
-child-node-requires t c κs = (omega (arith, c .before .before .pre .0, c .before .if1 .taken), tt)
+child-node-requires t c κs = (omega (arith, c .before .before .before .before .pre .0, c .before .if1 .taken), tt)
 
 child-returns : (t : ℕ) → child-lts.Need-returns (child-calls t) (child-at t) child.Post
 child-returns t c = at-child (c .node .ensures)
@@ -143,7 +144,7 @@ node-three-requires : (t : ℕ) → node-lts.Need-three-requires (node-calls t) 
 node-three-requires t c κs = (omega (arith, c .before .before .before .before .before .pre .0), search of-three)
 
 node-returns : (t : ℕ) → node-lts.Need-returns (node-calls t) (node-at t) node.Post
-node-returns t c = at-variable (c .before .before .before .before .before .before .word-at .ensures) (sym (c .before .before .before .before .before .kind .ensures) ∙ c .before .before .before .before .match .keys1) (c .before .field-a .ensures) (c .variable .ensures)
+node-returns t c = at-variable (c .before .before .before .before .before .before .node-word .ensures) (sym (c .before .before .before .before .before .kind .ensures) ∙ c .before .before .before .before .match .keys1) (c .before .name-a .ensures) (c .variable .ensures)
 
 node-returns-2 : (t : ℕ) → node-lts.Need-returns-2 (node-calls t) (node-at t) node.Post
 node-returns-2 t c = c .one .ensures
@@ -182,7 +183,7 @@ three-three-rule-requires : (t : ℕ) → three-lts.Need-three-rule-requires (th
 three-three-rule-requires t c κs = rw (c .kind .ensures) (c .before .before .before .before .before .before .before .before .before .before .before .pre .1 .kind)
 
 three-returns : (t : ℕ) → three-lts.Need-returns (three-calls t) (three-at t) three.Post
-three-returns t c = at-three (c .before .before .before .before .before .before .before .before .before .before .before .before .pre .1) (c .before .kind .ensures) (c .before .before .before .before .before .before .before .child .ensures) (c .before .before .before .before .before .child2 .ensures) (c .before .before .before .child3 .ensures) (omega (arith, c .before .before .before .before .before .before .before .before .before .before .before .field-a .ensures)) (omega (arith, c .before .before .before .before .before .before .before .before .before .before .field-b .ensures)) (omega (arith, c .before .before .before .before .before .before .before .before .before .field-c .ensures)) (c .three-rule .ensures)
+three-returns t c = at-three (c .before .before .before .before .before .before .before .before .before .before .before .before .pre .1) (c .before .kind .ensures) (c .before .before .before .before .before .before .before .child .ensures) (c .before .before .before .before .before .child2 .ensures) (c .before .before .before .child3 .ensures) (omega (arith, c .before .before .before .before .before .before .before .before .before .before .before .child-a .ensures)) (omega (arith, c .before .before .before .before .before .before .before .before .before .before .child-b .ensures)) (omega (arith, c .before .before .before .before .before .before .before .before .before .child-c .ensures)) (c .three-rule .ensures)
 
 two-child-requires : (t : ℕ) → two-lts.Need-child-requires (two-calls t) (two-at t) two.Post
 two-child-requires t c κs = (omega (arith, c .before .before .pre .0), tt)

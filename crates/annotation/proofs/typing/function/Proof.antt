@@ -29,7 +29,7 @@ shared-slice-read-if2 c = omega arith
 
 returns-2 : tie.Need-returns-2 Inv-loop μ-loop
 unfolding maxTypes
-returns-2 c = λ few. rw (c .typed .ensures) (listed-at _ (c .before .before .before .loop-test .taken) (c .before .if2 .taken ∙ c .before .before .before .before .before .pair .ensures .1))
+returns-2 c = λ few. rw (c .typed .ensures) (listed-at _ (c .before .before .before .loop-test .taken) (c .before .if2 .taken ∙ c .before .before .before .before .before .function-word .ensures .1))
 
 loop-again : tie.Need-loop-again Inv-loop μ-loop
 unfolding maxTypes
@@ -37,7 +37,7 @@ loop-again c = (omega arith, below-more _ _ (c .before .before .before .loop .in
 
 returns-3 : tie.Need-returns-3 Inv-loop μ-loop
 unfolding maxTypes
-returns-3 c = λ few. rw (c .fault2 .ensures) (not-listed (λ k h e. c .before .before .loop .inv .1 k (omega arith) (e ∙ sym (c .before .before .before .pair .ensures .1))))
+returns-3 c = λ few. rw (c .fault2 .ensures) (not-listed (λ k h e. c .before .before .loop .inv .1 k (omega arith) (e ∙ sym (c .before .before .before .function-word .ensures .1))))
 
 pub function-spec : {M : Type 1} → statement M
 unfolding maxTypes

@@ -5,7 +5,7 @@ use Rattle.annotation.proofs.typing.parameter.Statement.{statement}
 use Rattle.annotation.proofs.typing.parameter.Tie as tie
 
 returns : tie.Need-returns
-returns c = rw (← c .before .before .kind .ensures, c .before .match .keys1, c .field-b .ensures)
+returns c = rw (← c .before .before .kind .ensures, c .before .match .keys1, c .type-b .ensures)
 
 returns-2 : tie.Need-returns-2
 returns-2 c = rw (← c .before .kind .ensures, ne-eqb _ _ (c .match .rest .1))

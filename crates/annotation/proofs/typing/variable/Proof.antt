@@ -39,10 +39,10 @@ loop-holds : tie.Need-loop-holds Inv-loop μ-loop
 loop-holds c = (omega arith, refl)
 
 returns-2 : tie.Need-returns-2 Inv-loop μ-loop
-returns-2 c = λ few. c .typed .ensures ∙ rw (c .before .high .ensures) (sym (c .before .before .before .before .before .before .before .loop .inv .1 ∙ found-here _ _ _ _ (c .before .before .before .before .before .before .loop-test .taken) (sym (c .before .before .before .before .low .ensures) ∙ c .before .before .if2 .taken)))
+returns-2 c = λ few. c .typed .ensures ∙ rw (c .before .binder-type .ensures) (sym (c .before .before .before .before .before .before .before .before .loop .inv .1 ∙ found-here _ _ _ _ (c .before .before .before .before .before .before .before .loop-test .taken) (sym (c .before .before .before .before .before .binder-name .ensures) ∙ c .before .before .if2 .taken)))
 
 loop-again : tie.Need-loop-again Inv-loop μ-loop
-loop-again c = (omega arith, c .before .before .before .before .before .loop .inv .1 ∙ not-here _ _ _ _ (c .before .before .before .before .loop-test .taken) (λ e. c .if2 .left (c .before .before .low .ensures ∙ e)))
+loop-again c = (omega arith, c .before .before .before .before .before .before .loop .inv .1 ∙ not-here _ _ _ _ (c .before .before .before .before .before .loop-test .taken) (λ e. c .if2 .left (c .before .before .before .binder-name .ensures ∙ e)))
 
 returns-3 : tie.Need-returns-3 Inv-loop μ-loop
 unfolding bound
