@@ -1,12 +1,16 @@
-// The types of a script's nodes, found by recursion on falling node numbers: refusals 9, 10 and 11. An answer is one number, and the
-// nodes are lent by a reference to a slice reference: a struct that is returned and a slice reference itself go through memory.
+// The types of a script's nodes, found by recursion on falling node numbers, field by field as the table of tables says: refusals 9, 10
+// and 11. An answer is one number, and the nodes are lent by a reference to a slice reference: a struct that is returned and a slice
+// reference itself would go through memory.
+use lambdamix::Use;
 use script::Counts;
 use script::Name;
 use script::NodeNumber;
 use script::Refusal;
+use script::Row;
 use script::TypeNumber;
 use script::Verdict;
 use script::column::type_at;
+use script::kinds::row_of;
 use script::limits::MAX_HEIGHT;
 use script::limits::MAX_INPUTS;
 use script::limits::MAX_TYPES;
@@ -21,14 +25,14 @@ use script::word::type_b;
 ghost use Prim.Native.Nat.{_-_, _≤_};
 ghost use mathlib.Core.Path.{_≡_};
 ghost use mathlib.Core.Bool.{_&&_};
-ghost use mathlib.Core.List.{[], _∷_};
 ghost use lib.ListN.{getD, length, replicate, set};
 ghost use lib.Dec.{eqb};
 ghost use Rattle.lambdamix.specs.Limits.{maxTypes};
 ghost use Rattle.script.specs.Replies.{refusalOf};
-ghost use Rattle.script.specs.Words.{wordKind, wordB};
-ghost use Rattle.annotation.specs.Answers.{applyAnswer, faultAnswer, fixAnswer, givenBy, highHalf, lowHalf, lowest, pairWord, pick, rootAnswer, typeAnswer, typeIn};
-ghost use Rattle.annotation.specs.Walks.{Annotated, Answers, BinderRuled, BindsName, Bottom, ChildAnswers, Lists, Listing, OneChild, Pair, Pushed, Ruled, ThreeChildren, TwoChildren, WordOf, bound, unlisted};
+ghost use Rattle.script.specs.Words.{wordKind, wordA};
+ghost use Rattle.tables.specs.Walks.{isBinder, isChild};
+ghost use Rattle.annotation.specs.Answers.{applyAnswer, faultAnswer, fixAnswer, givenBy, highHalf, lowHalf, lowest, pairWord, rootAnswer, typeAnswer, typeIn};
+ghost use Rattle.annotation.specs.Walks.{Annotated, Answers, Bottom, ChildAnswers, Entered, FieldAnswers, Lists, Listing, Pair, Pushed, RowOf, Ruled, bound, parameterBy, unlisted};
 
 // Places of the stack: the inputs, and as many binders as a tree is high.
 const STACK_PLACES: usize = MAX_INPUTS + MAX_HEIGHT;
@@ -208,42 +212,25 @@ fn variable(stack: &[u32], depth: usize, i: NodeNumber, x: Name) -> u32
     fault(9, i)
 }
 
-// A node with one child: a fault goes first, else the rule of the node's kind.
-fn one_rule(types: &[u32], k: u16, i: NodeNumber, e: u32) -> u32
-    requires { ⌜ OneChild k ⌝ }
-    ensures { λ r. ⌜ Ruled (now (types .entry)) k (i .0) (e ∷ []) r ⌝ }
+fn all_dynamic(t: TypeNumber, u: TypeNumber, v: TypeNumber) -> bool
+    ensures { λ r. ⌜ r ≡ (eqb (t .0) 1 && (eqb (u .0) 1 && eqb (v .0) 1)) ⌝ }
 {
-    if e < TYPE_BASE {
-        return e;
-    }
-    let t = type_in(e);
-    match k {
-        2 => given(t.0 == STATIC, TypeNumber(DYNAMIC), i),
-        5 => fix(types, i, t),
-        _ => given(t.0 == DYNAMIC, TypeNumber(DYNAMIC), i),
-    }
+    both(t.0 == DYNAMIC, both(u.0 == DYNAMIC, v.0 == DYNAMIC))
 }
 
-fn two_rule(types: &[u32], k: u16, i: NodeNumber, e: u32, f: u32) -> u32
-    requires { ⌜ TwoChildren k ⌝ }
-    ensures { λ r. ⌜ Ruled (now (types .entry)) k (i .0) (e ∷ f ∷ []) r ⌝ }
-{
-    let least = lower(e, f);
-    if least < TYPE_BASE {
-        return least;
-    }
-    let t = type_in(e);
-    let u = type_in(f);
-    match k {
-        4 => application(types, i, t, u),
-        7 => given(both(t.0 == STATIC, u.0 == STATIC), TypeNumber(STATIC), i),
-        _ => given(both(t.0 == DYNAMIC, u.0 == DYNAMIC), TypeNumber(DYNAMIC), i),
-    }
-}
-
-fn three_rule(types: &[u32], k: u16, i: NodeNumber, e: u32, f: u32, g: u32) -> u32
-    requires { ⌜ ThreeChildren k ⌝ }
-    ensures { λ r. ⌜ Ruled (now (types .entry)) k (i .0) (e ∷ f ∷ g ∷ []) r ⌝ }
+// The rule of a node's kind on the answers at its fields, of which those that are no children are D; the lowest fault goes first.
+fn rule(
+    types: &[u32],
+    stack: &[u32],
+    depth: usize,
+    i: NodeNumber,
+    w: u64,
+    p: TypeNumber,
+    e: u32,
+    f: u32,
+    g: u32,
+) -> u32
+    ensures { λ r. ⌜ Ruled (now (types .entry)) (now (stack .entry)) depth (i .0) (wordKind w) (wordA w) (p .0) e f g r ⌝ }
 {
     let least = lower(e, lower(f, g));
     if least < TYPE_BASE {
@@ -252,37 +239,16 @@ fn three_rule(types: &[u32], k: u16, i: NodeNumber, e: u32, f: u32, g: u32) -> u
     let t = type_in(e);
     let u = type_in(f);
     let v = type_in(g);
-    if k == 6 {
-        return given(both(t.0 == STATIC, u.0 == v.0), u, i);
-    }
-    given(
-        both(t.0 == DYNAMIC, both(u.0 == DYNAMIC, v.0 == DYNAMIC)),
-        TypeNumber(DYNAMIC),
-        i,
-    )
-}
-
-// A binder, whose parameter has the type p.
-fn binder_rule(types: &[u32], k: u16, p: TypeNumber, i: NodeNumber, e: u32) -> u32
-    ensures { λ r. ⌜ BinderRuled (now (types .entry)) k (p .0) (i .0) e r ⌝ }
-{
-    if e < TYPE_BASE {
-        return e;
-    }
-    let u = type_in(e);
-    if k == 3 {
-        return function(types, i, p, u);
-    }
-    given(u.0 == DYNAMIC, TypeNumber(DYNAMIC), i)
-}
-
-// The type of a binder's parameter: the one that a function names, or D.
-fn parameter(w: u64) -> TypeNumber
-    ensures { λ r. ⌜ r .0 ≡ pick (eqb (wordKind w) 3) (wordB w) 1 ⌝ }
-{
     match kind(w) {
-        3 => type_b(w),
-        _ => TypeNumber(DYNAMIC),
+        0 => typed(TypeNumber(STATIC)),
+        1 => variable(stack, depth, i, name_a(w)),
+        2 => given(t.0 == STATIC, TypeNumber(DYNAMIC), i),
+        3 => function(types, i, p, v),
+        4 => application(types, i, t, u),
+        5 => fix(types, i, t),
+        6 => given(both(t.0 == STATIC, u.0 == v.0), u, i),
+        7 => given(both(t.0 == STATIC, u.0 == STATIC), TypeNumber(STATIC), i),
+        _ => given(all_dynamic(t, u, v), TypeNumber(DYNAMIC), i),
     }
 }
 
@@ -297,6 +263,56 @@ fn push(stack: &mut [u32], depth: usize, w: u32) -> usize
     depth
 }
 
+fn is_binder(u: Use) -> bool
+    ensures { λ r. ⌜ r ≡ isBinder u ⌝ }
+{
+    match u {
+        Use::Binder => true,
+        Use::Nothing => false,
+        Use::Name => false,
+        Use::Child => false,
+        Use::ParameterType => false,
+        Use::Operation => false,
+    }
+}
+
+fn is_child(u: Use) -> bool
+    ensures { λ r. ⌜ r ≡ isChild u ⌝ }
+{
+    match u {
+        Use::Child => true,
+        Use::Nothing => false,
+        Use::Name => false,
+        Use::Binder => false,
+        Use::ParameterType => false,
+        Use::Operation => false,
+    }
+}
+
+// The type of a binder's parameter, by the use of the field that may name it: that one, or D.
+fn parameter(u: Use, t: TypeNumber) -> TypeNumber
+    ensures { λ r. ⌜ r .0 ≡ parameterBy u (t .0) ⌝ }
+{
+    match u {
+        Use::ParameterType => t,
+        Use::Nothing => TypeNumber(DYNAMIC),
+        Use::Name => TypeNumber(DYNAMIC),
+        Use::Binder => TypeNumber(DYNAMIC),
+        Use::Child => TypeNumber(DYNAMIC),
+        Use::Operation => TypeNumber(DYNAMIC),
+    }
+}
+
+// A field that is a binder goes on the stack, with its parameter's type; how deep the stack is then.
+fn enter(stack: &mut [u32], depth: usize, u: Use, t: TypeNumber, x: Name) -> usize
+    ensures { λ r. ⌜ Entered (t .0) (x .0) depth (now (stack .entry)) (isBinder u) r (now (stack .exit)) ⌝ }
+{
+    if is_binder(u) {
+        return push(stack, depth, binder_word(t, x));
+    }
+    depth
+}
+
 // A write past the end changes nothing.
 fn put(s: &mut [u32], i: usize, w: u32)
     ensures { λ r. ⌜ now (s .exit) ≡ set (now (s .entry)) i w ⌝ }
@@ -306,7 +322,7 @@ fn put(s: &mut [u32], i: usize, w: u32)
     }
 }
 
-// The type of node i, under the first binders of the stack.
+// The type of node i, under the first binders of the stack, by the table's row of its own kind.
 fn node(
     nodes: &&[u64],
     types: &[u32; MAX_TYPES],
@@ -318,13 +334,63 @@ fn node(
 {
     let w = node_word(*nodes, i);
     match kind(w) {
-        1 => variable(stack, depth, i, name_a(w)),
-        2 | 5 | 10 => one(nodes, types, stack, depth, i, w),
-        3 | 8 => binder(nodes, types, stack, depth, i, w),
-        4 | 7 | 9 | 12 => two(nodes, types, stack, depth, i, w),
-        6 | 11 => three(nodes, types, stack, depth, i, w),
+        0 => fields(nodes, types, stack, depth, i, w, row_of(0)),
+        1 => fields(nodes, types, stack, depth, i, w, row_of(1)),
+        2 => fields(nodes, types, stack, depth, i, w, row_of(2)),
+        3 => fields(nodes, types, stack, depth, i, w, row_of(3)),
+        4 => fields(nodes, types, stack, depth, i, w, row_of(4)),
+        5 => fields(nodes, types, stack, depth, i, w, row_of(5)),
+        6 => fields(nodes, types, stack, depth, i, w, row_of(6)),
+        7 => fields(nodes, types, stack, depth, i, w, row_of(7)),
+        8 => fields(nodes, types, stack, depth, i, w, row_of(8)),
+        9 => fields(nodes, types, stack, depth, i, w, row_of(9)),
+        10 => fields(nodes, types, stack, depth, i, w, row_of(10)),
+        11 => fields(nodes, types, stack, depth, i, w, row_of(11)),
+        12 => fields(nodes, types, stack, depth, i, w, row_of(12)),
         _ => typed(TypeNumber(STATIC)),
     }
+}
+
+// Field by field, by its use: a binder goes on the stack, and children are typed under it; then the rule of the node's kind.
+fn fields(
+    nodes: &&[u64],
+    types: &[u32; MAX_TYPES],
+    stack: &mut [u32; STACK_PLACES],
+    depth: usize,
+    i: NodeNumber,
+    w: u64,
+    row: Row,
+) -> u32
+    requires { ⌜ RowOf (now (now nodes)) (i .0) w row ⌝ }
+    ensures { λ r. ⌜ Answers (now (now (nodes .entry))) (now (types .entry)) (now (stack .entry)) (now (stack .exit)) depth (i .0) r ⌝ }
+{
+    let a = row.0;
+    let b = row.1;
+    let c = row.2;
+    let p = parameter(b, type_b(w));
+    let inner = enter(stack, depth, a, p, name_a(w));
+    let e = field(nodes, types, stack, inner, i, a, child_a(w));
+    let f = field(nodes, types, stack, inner, i, b, child_b(w));
+    let g = field(nodes, types, stack, inner, i, c, child_c(w));
+    rule(types, stack, depth, i, w, p, e, f, g)
+}
+
+// A field that is a child has the child's type, any other is not visited: D, which is no fault.
+fn field(
+    nodes: &&[u64],
+    types: &[u32; MAX_TYPES],
+    stack: &mut [u32; STACK_PLACES],
+    depth: usize,
+    i: NodeNumber,
+    u: Use,
+    m: NodeNumber,
+) -> u32
+    ensures { λ r. ⌜ FieldAnswers (now (now (nodes .entry))) (now (types .entry)) depth (i .0) (m .0) (now (stack .entry)) (isChild u) (now (stack .exit)) r ⌝ }
+{
+    if is_child(u) {
+        return child(nodes, types, stack, depth, i, m);
+    }
+    typed(TypeNumber(DYNAMIC))
 }
 
 // A child's number is smaller than its parent's.
@@ -342,74 +408,6 @@ fn child(
         return node(nodes, types, stack, depth, m);
     }
     typed(TypeNumber(DYNAMIC))
-}
-
-fn one(
-    nodes: &&[u64],
-    types: &[u32; MAX_TYPES],
-    stack: &mut [u32; STACK_PLACES],
-    depth: usize,
-    i: NodeNumber,
-    w: u64,
-) -> u32
-    requires { ⌜ WordOf (now (now nodes)) (i .0) w OneChild ⌝ }
-    ensures { λ r. ⌜ Answers (now (now (nodes .entry))) (now (types .entry)) (now (stack .entry)) (now (stack .exit)) depth (i .0) r ⌝ }
-{
-    let e = child(nodes, types, stack, depth, i, child_a(w));
-    one_rule(types, kind(w), i, e)
-}
-
-fn two(
-    nodes: &&[u64],
-    types: &[u32; MAX_TYPES],
-    stack: &mut [u32; STACK_PLACES],
-    depth: usize,
-    i: NodeNumber,
-    w: u64,
-) -> u32
-    requires { ⌜ WordOf (now (now nodes)) (i .0) w TwoChildren ⌝ }
-    ensures { λ r. ⌜ Answers (now (now (nodes .entry))) (now (types .entry)) (now (stack .entry)) (now (stack .exit)) depth (i .0) r ⌝ }
-{
-    let e = child(nodes, types, stack, depth, i, child_a(w));
-    let f = child(nodes, types, stack, depth, i, child_b(w));
-    two_rule(types, kind(w), i, e, f)
-}
-
-fn three(
-    nodes: &&[u64],
-    types: &[u32; MAX_TYPES],
-    stack: &mut [u32; STACK_PLACES],
-    depth: usize,
-    i: NodeNumber,
-    w: u64,
-) -> u32
-    requires { ⌜ WordOf (now (now nodes)) (i .0) w ThreeChildren ⌝ }
-    ensures { λ r. ⌜ Answers (now (now (nodes .entry))) (now (types .entry)) (now (stack .entry)) (now (stack .exit)) depth (i .0) r ⌝ }
-{
-    let a = child_a(w);
-    let b = child_b(w);
-    let c = child_c(w);
-    let e = child(nodes, types, stack, depth, i, a);
-    let f = child(nodes, types, stack, depth, i, b);
-    let g = child(nodes, types, stack, depth, i, c);
-    three_rule(types, kind(w), i, e, f, g)
-}
-
-fn binder(
-    nodes: &&[u64],
-    types: &[u32; MAX_TYPES],
-    stack: &mut [u32; STACK_PLACES],
-    depth: usize,
-    i: NodeNumber,
-    w: u64,
-) -> u32
-    requires { ⌜ WordOf (now (now nodes)) (i .0) w BindsName ⌝ }
-    ensures { λ r. ⌜ Answers (now (now (nodes .entry))) (now (types .entry)) (now (stack .entry)) (now (stack .exit)) depth (i .0) r ⌝ }
-{
-    let p = parameter(w);
-    let inner = push(stack, depth, binder_word(p, name_a(w)));
-    let e = child(nodes, types, stack, inner, i, child_c(w));
-    binder_rule(types, kind(w), p, i, e)
 }
 
 // The words of the listed types, over places that hold none.

@@ -97,7 +97,7 @@ child-by-use ParameterType f fs = refl
 child-by-use Operation f fs = refl
 
 -- a list of uses keeps of three fields those that are children
-kept-fields :
+pub kept-fields :
     (us : List Use) (f g h : ℕ)
     → childFields us (f ∷ g ∷ h ∷ [])
     ≡ keptIf (isChild (getD us 0 Nothing)) f (keptIf (isChild (getD us 1 Nothing)) g (keptIf (isChild (getD us 2 Nothing)) h []))
