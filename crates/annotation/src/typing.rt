@@ -47,11 +47,11 @@ const FAULT_LIMIT: u32 = 16;
 const TYPE_BASE: u32 = FAULT_LIMIT * LIMIT_16;
 
 // The numbers of the types S and D, and of the first listed one.
-const STATIC: u16 = 0;
+const STATIC: TypeNumber = TypeNumber(0);
 
-const DYNAMIC: u16 = 1;
+const DYNAMIC: TypeNumber = TypeNumber(1);
 
-const FIRST_LISTED: u16 = 2;
+const FIRST_LISTED: TypeNumber = TypeNumber(2);
 
 // What a place past the listed types holds: no pair of types.
 const UNLISTED: u32 = 4294967295;
@@ -143,7 +143,7 @@ fn listed(types: &[u32], f: TypeNumber) -> u32
     requires { ⌜ 2 ≤ f .0 ⌝ }
     ensures { λ r. ⌜ r ≡ getD (now (types .entry)) (f .0 - 2) 0 ⌝ }
 {
-    let at = (f.0 - FIRST_LISTED) as usize;
+    let at = (f.0 - FIRST_LISTED.0) as usize;
     if at < types.len() {
         return types[at];
     }
@@ -154,7 +154,7 @@ fn listed(types: &[u32], f: TypeNumber) -> u32
 fn application(types: &[u32], i: NodeNumber, f: TypeNumber, t: TypeNumber) -> u32
     ensures { λ r. ⌜ r ≡ applyAnswer (now (types .entry)) (i .0) (f .0) (t .0) ⌝ }
 {
-    if f.0 < FIRST_LISTED {
+    if f.0 < FIRST_LISTED.0 {
         return fault(9, i);
     }
     let w = listed(types, f);
@@ -166,13 +166,13 @@ fn application(types: &[u32], i: NodeNumber, f: TypeNumber, t: TypeNumber) -> u3
 fn fix(types: &[u32], i: NodeNumber, f: TypeNumber) -> u32
     ensures { λ r. ⌜ r ≡ fixAnswer (now (types .entry)) (i .0) (f .0) ⌝ }
 {
-    if f.0 < FIRST_LISTED {
+    if f.0 < FIRST_LISTED.0 {
         return fault(9, i);
     }
     let w = listed(types, f);
     let t = parameter_of(w);
     let u = result_of(w);
-    given(both(FIRST_LISTED <= t.0, t.0 == u.0), t, i)
+    given(both(FIRST_LISTED.0 <= t.0, t.0 == u.0), t, i)
 }
 
 // Function: the type from t to u, which must be listed.
@@ -186,7 +186,7 @@ fn function(types: &[u32], i: NodeNumber, t: TypeNumber, u: TypeNumber) -> u32
     let mut j: usize = 0;
     while j < MAX_TYPES {
         if types[j] == w {
-            return typed(TypeNumber(FIRST_LISTED + (j as u16)));
+            return typed(TypeNumber(FIRST_LISTED.0 + (j as u16)));
         }
         j += 1;
     }
@@ -212,10 +212,11 @@ fn variable(stack: &[u32], depth: usize, i: NodeNumber, x: Name) -> u32
     fault(9, i)
 }
 
+// Late kinds: all children D.
 fn all_dynamic(t: TypeNumber, u: TypeNumber, v: TypeNumber) -> bool
     ensures { λ r. ⌜ r ≡ (eqb (t .0) 1 && (eqb (u .0) 1 && eqb (v .0) 1)) ⌝ }
 {
-    both(t.0 == DYNAMIC, both(u.0 == DYNAMIC, v.0 == DYNAMIC))
+    both(t.0 == DYNAMIC.0, both(u.0 == DYNAMIC.0, v.0 == DYNAMIC.0))
 }
 
 // The rule of a node's kind on the answers at its fields, of which those that are no children are D; the lowest fault goes first.
@@ -240,15 +241,15 @@ fn rule(
     let u = type_in(f);
     let v = type_in(g);
     match kind(w) {
-        0 => typed(TypeNumber(STATIC)),
+        0 => typed(STATIC),
         1 => variable(stack, depth, i, name_a(w)),
-        2 => given(t.0 == STATIC, TypeNumber(DYNAMIC), i),
+        2 => given(t.0 == STATIC.0, DYNAMIC, i),
         3 => function(types, i, p, v),
         4 => application(types, i, t, u),
         5 => fix(types, i, t),
-        6 => given(both(t.0 == STATIC, u.0 == v.0), u, i),
-        7 => given(both(t.0 == STATIC, u.0 == STATIC), TypeNumber(STATIC), i),
-        _ => given(all_dynamic(t, u, v), TypeNumber(DYNAMIC), i),
+        6 => given(both(t.0 == STATIC.0, u.0 == v.0), u, i),
+        7 => given(both(t.0 == STATIC.0, u.0 == STATIC.0), STATIC, i),
+        _ => given(all_dynamic(t, u, v), DYNAMIC, i),
     }
 }
 
@@ -295,11 +296,11 @@ fn parameter(u: Use, t: TypeNumber) -> TypeNumber
 {
     match u {
         Use::ParameterType => t,
-        Use::Nothing => TypeNumber(DYNAMIC),
-        Use::Name => TypeNumber(DYNAMIC),
-        Use::Binder => TypeNumber(DYNAMIC),
-        Use::Child => TypeNumber(DYNAMIC),
-        Use::Operation => TypeNumber(DYNAMIC),
+        Use::Nothing => DYNAMIC,
+        Use::Name => DYNAMIC,
+        Use::Binder => DYNAMIC,
+        Use::Child => DYNAMIC,
+        Use::Operation => DYNAMIC,
     }
 }
 
@@ -347,7 +348,7 @@ fn node(
         10 => fields(nodes, types, stack, depth, i, w, row_of(10)),
         11 => fields(nodes, types, stack, depth, i, w, row_of(11)),
         12 => fields(nodes, types, stack, depth, i, w, row_of(12)),
-        _ => typed(TypeNumber(STATIC)),
+        _ => typed(STATIC),
     }
 }
 
@@ -390,7 +391,7 @@ fn field(
     if is_child(u) {
         return child(nodes, types, stack, depth, i, m);
     }
-    typed(TypeNumber(DYNAMIC))
+    typed(DYNAMIC)
 }
 
 // A child's number is smaller than its parent's.
@@ -407,7 +408,7 @@ fn child(
     if m.0 < i.0 {
         return node(nodes, types, stack, depth, m);
     }
-    typed(TypeNumber(DYNAMIC))
+    typed(DYNAMIC)
 }
 
 // The words of the listed types, over places that hold none.
@@ -447,7 +448,7 @@ fn verdict(i: NodeNumber, r: u32) -> Verdict
         });
     }
     let t = type_in(r);
-    if t.0 == DYNAMIC {
+    if t.0 == DYNAMIC.0 {
         return Verdict::Passed;
     }
     Verdict::Refused(Refusal {

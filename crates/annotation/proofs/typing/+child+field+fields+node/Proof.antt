@@ -174,56 +174,95 @@ fields-returns t c =
     (c .rule .ensures)
 
 node-fields-requires : (t : ℕ) → node-lts.Need-fields-requires (node-calls t) (node-at t) node.Post
-node-fields-requires t c κs =
-    (omega (arith, c .before .before .before .before .before .before .pre .0), of-row _ (c .before .before .before .before .node-word .ensures) (c .before .before .before .kind .ensures) (c .row-of .ensures) (omega (arith, c .before .before .match .keys1)))
+node-fields-requires t c κs = (
+  omega (arith, c .before .before .before .before .before .before .pre .0),
+  of-row _ (c .before .before .before .before .node-word .ensures) (c .before .before .before .kind .ensures) (c .row-of .ensures)
+      (omega (arith, c .before .before .match .keys1)),
+)
 
 node-fields-requires-2 : (t : ℕ) → node-lts.Need-fields-requires-2 (node-calls t) (node-at t) node.Post
-node-fields-requires-2 t c κs =
-    (omega (arith, c .before .before .before .before .before .before .pre .0), of-row _ (c .before .before .before .before .node-word .ensures) (c .before .before .before .kind .ensures) (c .row-of2 .ensures) (omega (arith, c .before .before .match .keys2)))
+node-fields-requires-2 t c κs = (
+  omega (arith, c .before .before .before .before .before .before .pre .0),
+  of-row _ (c .before .before .before .before .node-word .ensures) (c .before .before .before .kind .ensures) (c .row-of2 .ensures)
+      (omega (arith, c .before .before .match .keys2)),
+)
 
 node-fields-requires-3 : (t : ℕ) → node-lts.Need-fields-requires-3 (node-calls t) (node-at t) node.Post
-node-fields-requires-3 t c κs =
-    (omega (arith, c .before .before .before .before .before .before .pre .0), of-row _ (c .before .before .before .before .node-word .ensures) (c .before .before .before .kind .ensures) (c .row-of3 .ensures) (omega (arith, c .before .before .match .keys3)))
+node-fields-requires-3 t c κs = (
+  omega (arith, c .before .before .before .before .before .before .pre .0),
+  of-row _ (c .before .before .before .before .node-word .ensures) (c .before .before .before .kind .ensures) (c .row-of3 .ensures)
+      (omega (arith, c .before .before .match .keys3)),
+)
 
 node-fields-requires-4 : (t : ℕ) → node-lts.Need-fields-requires-4 (node-calls t) (node-at t) node.Post
-node-fields-requires-4 t c κs =
-    (omega (arith, c .before .before .before .before .before .before .pre .0), of-row _ (c .before .before .before .before .node-word .ensures) (c .before .before .before .kind .ensures) (c .row-of4 .ensures) (omega (arith, c .before .before .match .keys4)))
+node-fields-requires-4 t c κs = (
+  omega (arith, c .before .before .before .before .before .before .pre .0),
+  of-row _ (c .before .before .before .before .node-word .ensures) (c .before .before .before .kind .ensures) (c .row-of4 .ensures)
+      (omega (arith, c .before .before .match .keys4)),
+)
 
 node-fields-requires-5 : (t : ℕ) → node-lts.Need-fields-requires-5 (node-calls t) (node-at t) node.Post
-node-fields-requires-5 t c κs =
-    (omega (arith, c .before .before .before .before .before .before .pre .0), of-row _ (c .before .before .before .before .node-word .ensures) (c .before .before .before .kind .ensures) (c .row-of5 .ensures) (omega (arith, c .before .before .match .keys5)))
+node-fields-requires-5 t c κs = (
+  omega (arith, c .before .before .before .before .before .before .pre .0),
+  of-row _ (c .before .before .before .before .node-word .ensures) (c .before .before .before .kind .ensures) (c .row-of5 .ensures)
+      (omega (arith, c .before .before .match .keys5)),
+)
 
 node-fields-requires-6 : (t : ℕ) → node-lts.Need-fields-requires-6 (node-calls t) (node-at t) node.Post
-node-fields-requires-6 t c κs =
-    (omega (arith, c .before .before .before .before .before .before .pre .0), of-row _ (c .before .before .before .before .node-word .ensures) (c .before .before .before .kind .ensures) (c .row-of6 .ensures) (omega (arith, c .before .before .match .keys6)))
+node-fields-requires-6 t c κs = (
+  omega (arith, c .before .before .before .before .before .before .pre .0),
+  of-row _ (c .before .before .before .before .node-word .ensures) (c .before .before .before .kind .ensures) (c .row-of6 .ensures)
+      (omega (arith, c .before .before .match .keys6)),
+)
 
 node-fields-requires-7 : (t : ℕ) → node-lts.Need-fields-requires-7 (node-calls t) (node-at t) node.Post
-node-fields-requires-7 t c κs =
-    (omega (arith, c .before .before .before .before .before .before .pre .0), of-row _ (c .before .before .before .before .node-word .ensures) (c .before .before .before .kind .ensures) (c .row-of7 .ensures) (omega (arith, c .before .before .match .keys7)))
+node-fields-requires-7 t c κs = (
+  omega (arith, c .before .before .before .before .before .before .pre .0),
+  of-row _ (c .before .before .before .before .node-word .ensures) (c .before .before .before .kind .ensures) (c .row-of7 .ensures)
+      (omega (arith, c .before .before .match .keys7)),
+)
 
 node-fields-requires-8 : (t : ℕ) → node-lts.Need-fields-requires-8 (node-calls t) (node-at t) node.Post
-node-fields-requires-8 t c κs =
-    (omega (arith, c .before .before .before .before .before .before .pre .0), of-row _ (c .before .before .before .before .node-word .ensures) (c .before .before .before .kind .ensures) (c .row-of8 .ensures) (omega (arith, c .before .before .match .keys8)))
+node-fields-requires-8 t c κs = (
+  omega (arith, c .before .before .before .before .before .before .pre .0),
+  of-row _ (c .before .before .before .before .node-word .ensures) (c .before .before .before .kind .ensures) (c .row-of8 .ensures)
+      (omega (arith, c .before .before .match .keys8)),
+)
 
 node-fields-requires-9 : (t : ℕ) → node-lts.Need-fields-requires-9 (node-calls t) (node-at t) node.Post
-node-fields-requires-9 t c κs =
-    (omega (arith, c .before .before .before .before .before .before .pre .0), of-row _ (c .before .before .before .before .node-word .ensures) (c .before .before .before .kind .ensures) (c .row-of9 .ensures) (omega (arith, c .before .before .match .keys9)))
+node-fields-requires-9 t c κs = (
+  omega (arith, c .before .before .before .before .before .before .pre .0),
+  of-row _ (c .before .before .before .before .node-word .ensures) (c .before .before .before .kind .ensures) (c .row-of9 .ensures)
+      (omega (arith, c .before .before .match .keys9)),
+)
 
 node-fields-requires-10 : (t : ℕ) → node-lts.Need-fields-requires-10 (node-calls t) (node-at t) node.Post
-node-fields-requires-10 t c κs =
-    (omega (arith, c .before .before .before .before .before .before .pre .0), of-row _ (c .before .before .before .before .node-word .ensures) (c .before .before .before .kind .ensures) (c .row-of10 .ensures) (omega (arith, c .before .before .match .keys10)))
+node-fields-requires-10 t c κs = (
+  omega (arith, c .before .before .before .before .before .before .pre .0),
+  of-row _ (c .before .before .before .before .node-word .ensures) (c .before .before .before .kind .ensures) (c .row-of10 .ensures)
+      (omega (arith, c .before .before .match .keys10)),
+)
 
 node-fields-requires-11 : (t : ℕ) → node-lts.Need-fields-requires-11 (node-calls t) (node-at t) node.Post
-node-fields-requires-11 t c κs =
-    (omega (arith, c .before .before .before .before .before .before .pre .0), of-row _ (c .before .before .before .before .node-word .ensures) (c .before .before .before .kind .ensures) (c .row-of11 .ensures) (omega (arith, c .before .before .match .keys11)))
+node-fields-requires-11 t c κs = (
+  omega (arith, c .before .before .before .before .before .before .pre .0),
+  of-row _ (c .before .before .before .before .node-word .ensures) (c .before .before .before .kind .ensures) (c .row-of11 .ensures)
+      (omega (arith, c .before .before .match .keys11)),
+)
 
 node-fields-requires-12 : (t : ℕ) → node-lts.Need-fields-requires-12 (node-calls t) (node-at t) node.Post
-node-fields-requires-12 t c κs =
-    (omega (arith, c .before .before .before .before .before .before .pre .0), of-row _ (c .before .before .before .before .node-word .ensures) (c .before .before .before .kind .ensures) (c .row-of12 .ensures) (omega (arith, c .before .before .match .keys12)))
+node-fields-requires-12 t c κs = (
+  omega (arith, c .before .before .before .before .before .before .pre .0),
+  of-row _ (c .before .before .before .before .node-word .ensures) (c .before .before .before .kind .ensures) (c .row-of12 .ensures)
+      (omega (arith, c .before .before .match .keys12)),
+)
 
 node-fields-requires-13 : (t : ℕ) → node-lts.Need-fields-requires-13 (node-calls t) (node-at t) node.Post
-node-fields-requires-13 t c κs =
-    (omega (arith, c .before .before .before .before .before .before .pre .0), of-row _ (c .before .before .before .before .node-word .ensures) (c .before .before .before .kind .ensures) (c .row-of13 .ensures) (omega (arith, c .before .before .match .keys13)))
+node-fields-requires-13 t c κs = (
+  omega (arith, c .before .before .before .before .before .before .pre .0),
+  of-row _ (c .before .before .before .before .node-word .ensures) (c .before .before .before .kind .ensures) (c .row-of13 .ensures)
+      (omega (arith, c .before .before .match .keys13)),
+)
 
 node-returns-14 : (t : ℕ) → node-lts.Need-returns-14 (node-calls t) (node-at t) node.Post
 unfolding NotBelow

@@ -29,7 +29,7 @@ shared-slice-read-if2 c = omega arith
 
 returns-2 : tie.Need-returns-2 Inv-loop μ-loop
 unfolding maxTypes
-returns-2 c = λ few. rw (c .typed .ensures) (listed-at _ (c .before .before .before .loop-test .taken) (c .before .if2 .taken ∙ c .before .before .before .before .before .function-word .ensures .1))
+returns-2 c = λ few. rw (c .typed .ensures) (listed-at _ (c .before .before .before .before .loop-test .taken) (c .before .before .if2 .taken ∙ c .before .before .before .before .before .before .function-word .ensures .1))
 
 loop-again : tie.Need-loop-again Inv-loop μ-loop
 unfolding maxTypes
