@@ -151,23 +151,25 @@ fields-field-requires-2 : (t : ℕ) → fields-lts.Need-field-requires-2 (fields
 fields-field-requires-2 t c κs = (omega (arith, c .before .before .before .before .before .before .before .before .before .before .pre .0), tt)
 
 fields-field-requires-3 : (t : ℕ) → fields-lts.Need-field-requires-3 (fields-calls t) (fields-at t) fields.Post
-fields-field-requires-3 t c κs = (omega (arith, c .before .before .before .before .before .before .before .before .before .before .before .before .before .pre .0), tt)
+fields-field-requires-3 t c κs =
+    (omega (arith, c .before .before .before .before .before .before .before .before .before .before .before .before .before .pre .0), tt)
 
 fields-returns : (t : ℕ) → fields-lts.Need-returns (fields-calls t) (fields-at t) fields.Post
 fields-returns t c =
+    let s = c .before .before .before .before .before .before .before in
     at-fields
-    (c .before .before .before .before .before .before .before .before .before .before .before .before .before .before .before .before .before .before .pre .1)
-    (c .before .before .before .before .before .before .before .before .before .before .before .before .before .before .before .before .parameter .ensures)
-    (rw (c .before .before .before .before .before .before .before .before .before .before .before .before .before .before .before .before .before .type-b .ensures))
-    (c .before .before .before .before .before .before .before .before .before .before .before .before .before .enter .ensures)
+    (s .before .before .before .before .before .before .before .before .before .before .before .pre .1)
+    (s .before .before .before .before .before .before .before .before .before .parameter .ensures)
+    (rw (s .before .before .before .before .before .before .before .before .before .before .type-b .ensures))
+    (s .before .before .before .before .before .before .enter .ensures)
     (search needs)
-    (omega (arith, c .before .before .before .before .before .before .before .before .before .before .before .before .before .before .name-a .ensures))
-    (c .before .before .before .before .before .before .before .before .before .before .field .ensures)
+    (omega (arith, s .before .before .before .before .before .before .before .name-a .ensures))
+    (s .before .before .before .field .ensures)
     (search needs)
-    (omega (arith, c .before .before .before .before .before .before .before .before .before .before .before .child-a .ensures))
-    (c .before .before .before .before .before .before .before .field2 .ensures)
+    (omega (arith, s .before .before .before .before .child-a .ensures))
+    (s .field2 .ensures)
     (search needs)
-    (omega (arith, c .before .before .before .before .before .before .before .before .child-b .ensures))
+    (omega (arith, s .before .child-b .ensures))
     (c .before .before .before .before .field3 .ensures)
     (search needs)
     (omega (arith, c .before .before .before .before .before .child-c .ensures))
@@ -273,7 +275,8 @@ pub +child+field+fields+node-spec : {M : Type 1} → statement M
     close μ-child μ-field μ-fields μ-node
     (λ t. child-lts.spec (child-calls t) (child-at t) child.Post (child-node-requires t) (child-returns t) (λ c κs. search needs) (child-returns-2 t))
     (λ t.
-    field-lts.spec (field-calls t) (field-at t) field.Post (λ c κs. search needs) (field-child-requires t) (field-returns t) (λ c κs. search needs) (field-returns-2 t))
+    field-lts.spec (field-calls t) (field-at t) field.Post (λ c κs. search needs) (field-child-requires t) (field-returns t)
+    (λ c κs. search needs) (field-returns-2 t))
     (λ t.
     fields-lts.spec (fields-calls t) (fields-at t) fields.Post (λ c κs. search needs) (λ c κs. search needs) (λ c κs. search needs) (λ c κs. search needs)
     (λ c κs. search needs) (fields-field-requires t) (λ c κs. search needs) (fields-field-requires-2 t) (λ c κs. search needs)
