@@ -53,6 +53,23 @@ told-gather p =
       no-fault = λ h. elim (p .no-fault h) [ right a ↦ right _ ];
     }
 
+-- an answer that is no fault, behind another or before it, tells nothing
+module _ {A : Type 0} {m n : ℕ} {x : Checked A} (p : Told m x) (h : typeBase ≤ n) where
+  nothing-more : n / faultLimit ≤ m / faultLimit → Told n x
+  nothing-more l = record { fault = λ k. let z : ⊥ = omega arith in absurd z; no-fault = λ _. p .no-fault (omega arith) }
+
+  pub told-first : Told (lowest m n) x
+  unfolding lowest
+  told-first =
+      ⊎-elim (λ b. rw b p) (λ b. let l = leb-false (m / faultLimit) (n / faultLimit) b in rw b (nothing-more (omega arith)))
+      (holds-or-fails (leb (m / faultLimit) (n / faultLimit)))
+
+  pub told-second : Told (lowest n m) x
+  unfolding lowest
+  told-second =
+      ⊎-elim (λ b. rw b (nothing-more (leb-true (n / faultLimit) (m / faultLimit) b))) (λ b. rw b p)
+      (holds-or-fails (leb (n / faultLimit) (m / faultLimit)))
+
 -- of two faults the one at the lower node
 lower-place :
     (b : Bool) (e f : ℕ) → lowerBy b (refusalIn e) (refusalIn f) ≡ refusalIn (pick b e f)

@@ -1,266 +1,154 @@
--- The recursion on falling node numbers: a node's answer from those at its children. Assumes nothing.
-use Prim.Native.Nat.{ℕ, zero, suc, _+_, _≤_, _<_, max}
-use mathlib.Core.Path.{_≡_, refl, sym, _∙_}
+-- The recursion on falling node numbers: a node's answer from those at its fields, which go by the table's row of its kind. Assumes
+-- nothing.
+use Prim.Native.Nat.{ℕ, suc, _+_, _≤_, _<_}
+use mathlib.Core.Path.{_≡_, refl, _∙_}
+use mathlib.Core.Bool.{Bool, true, false}
 use mathlib.Core.List.{List, [], _∷_}
-use mathlib.Core.Logic.{_⊎_, inl, inr}
 use native.Mathlib.Omega.{arith}
-use lib.Dec.{eqb}
 use lib.ListN.{length, getD}
-use Rattle.lambdamix.specs.Limits.{maxNodes}
-use Rattle.lambdamix.specs.Script.{Script, rows, rowOf, blankRow, nodeAt, nodeCount, ifChild, childFields, children}
-use Rattle.lambdamix.specs.Term.{lam, dlam, childAt, build, terms, tree, height, heights}
+use Rattle.lambdamix.specs.declared.Use.{Use}
+use Rattle.lambdamix.specs.declared.Use.the-variants.{Nothing}
+use Rattle.lambdamix.specs.Script.{Script, rows, blankRow, nodeAt, nodeCount, fields, childFields}
+use Rattle.lambdamix.specs.Term.{terms, tree, height, heights}
 use Rattle.lambdamix.specs.Types.{typeOf, typeCount}
 use Rattle.lambdamix.specs.Typing.{Context, bind}
-use Rattle.lambdamix.specs.Checker.{check}
+use Rattle.script.specs.declared.Row.{Row}
+use Rattle.script.specs.KindRows.{rowAt}
 use Rattle.script.specs.Words.{wordKind, wordA, wordB, wordC}
-use Rattle.tables.specs.Walks.{Kept}
-use Rattle.tables.proofs.TreeForms.{All}
+use Rattle.tables.specs.Walks.{isBinder, isChild, keptIf, Kept}
+use Rattle.tables.proofs.TreeForms.{All, kept-fields}
 use Rattle.tables.proofs.Scopes.{kept-all}
-use Rattle.annotation.specs.Answers.{pick, typeAnswer, Stands}
-use Rattle.annotation.specs.Walks.{Lent, Pair, Binds, bound, Pushed, Answers, ChildAnswers, OneChild, lifts, fixes, fixes-dynamic, TwoChildren, applies, operates, applies-dynamic, operates-dynamic, ThreeChildren, chooses, chooses-dynamic, BindsName, abstracts, abstracts-dynamic, WordOf, Stand, none-left, and-then, Ruled, BinderRuled}
-use Rattle.script.proofs.Sound.{sound}
-use Rattle.annotation.proofs.TypeNumbers.{type-zero}
-use Rattle.annotation.proofs.Trees.{Below, kind-known, below-parent, named-type, tree-node, tree-height, node-kind, node-field, node-children}
-use Rattle.annotation.proofs.Contexts.{type-stands, binds-kept, kept-then, binds-more, bound-stands}
+use Rattle.annotation.specs.Answers.{pick, typeAnswer}
+use Rattle.annotation.specs.Walks.{Lent, Pair, Pushed, Binds, Entered, entered, passed-over, parameterBy, Answers, ChildAnswers, FieldAnswers, typed-child, not-visited, RowOf, Stand, none-left, child-then, other-then, places, Ruled}
+use Rattle.annotation.proofs.Trees.{Below, wordNode, kind-below, word-drawn, row-use}
+use Rattle.annotation.proofs.Contexts.{binds-kept, kept-then, binds-more}
+use Rattle.annotation.proofs.Rules.{NotBelow, not-below}
 
--- ---- the children of a node, one after the other
+-- ---- a field that may be a binder
 
--- the answers es at the children ms of node i, which leave the stack as `after`
-pub data Walk (words ts : List ℕ) (d i : ℕ) : List ℕ → List ℕ → List ℕ → List ℕ → Type 0 where
-  no-child : {stack : List ℕ} → Walk words ts d i stack stack [] []
-  next-child :
-      {before between after ms es : List ℕ} {m e : ℕ} → ChildAnswers words ts before between d i m e →
-      Walk words ts d i between after ms es → Walk words ts d i before after (m ∷ ms) (e ∷ es)
+pub enter-binder :
+    {a b : Bool} {w t y d e : ℕ} {before after : List ℕ} → a ≡ b → a ≡ true → Pair w t y → Pushed w d e before after →
+    Entered t y d before b e after
+enter-binder e q p s = rw (← e, q) (entered p s)
+
+pub pass-over : {a b : Bool} {t y d : ℕ} {stack : List ℕ} → a ≡ b → a ≡ false → Entered t y d stack b d stack
+pass-over e q = rw (← e, q) passed-over
+
+entered-kept :
+    {b : Bool} {t y d e : ℕ} {before after : List ℕ} → Entered t y d before b e after → Kept d before after × (d ≤ e)
+entered-kept (entered q p) = (p .kept, p .least)
+entered-kept passed-over = (kept-all _ _, omega arith)
+
+entered-binds :
+    {s : Script} {Γ : Context} {b : Bool} {t y d e : ℕ} {before after : List ℕ} → Entered t y d before b e after → Binds s before d Γ →
+    d < length before → t < typeCount s → Binds s after e (pick b (bind y (typeOf s t) Γ) Γ) × (e ≤ d + 1) × (length after ≡ length before)
+entered-binds (entered q p) b l h = let (e, _) = p .top l in (binds-more p l q h b, omega arith, p .kept .same)
+entered-binds passed-over b l h = (b, omega arith, omega arith)
+
+-- ---- a field that may be a child
+
+pub at-child-field :
+    {a b : Bool} {words ts before after : List ℕ} {d i m r : ℕ} → a ≡ b → a ≡ true → ChildAnswers words ts before after d i m r →
+    FieldAnswers words ts d i m before b after r
+at-child-field e q c = rw (← e, q) (typed-child c)
+
+pub at-other-field :
+    {a b : Bool} {words ts stack : List ℕ} {d i m r : ℕ} → a ≡ b → a ≡ false → r ≡ typeAnswer 1 → FieldAnswers words ts d i m stack b stack r
+at-other-field e q y = rw (← e, q, y) not-visited
+
+-- the answers es at the fields ms of node i, of which some are children; the stack is `after` then
+data Walk (words ts : List ℕ) (d i : ℕ) : List ℕ → List ℕ → List Bool → List ℕ → List ℕ → Type 0 where
+  no-field : {stack : List ℕ} → Walk words ts d i stack stack [] [] []
+  next-field :
+      {before between after ms es : List ℕ} {b : Bool} {bs : List Bool} {m e : ℕ} → FieldAnswers words ts d i m before b between e →
+      Walk words ts d i between after bs ms es → Walk words ts d i before after (b ∷ bs) (m ∷ ms) (e ∷ es)
+
+-- those of them that are children
+unfoldable kept : List Bool → List ℕ → List ℕ
+kept [] ms = []
+kept (b ∷ bs) [] = []
+kept (b ∷ bs) (m ∷ ms) = keptIf b m (kept bs ms)
 
 module _ {words ts : List ℕ} {d i : ℕ} where
-  walk-kept : {before after ms es : List ℕ} → Walk words ts d i before after ms es → Kept d before after
-  walk-kept no-child = kept-all d _
-  walk-kept (next-child a w) = kept-then (a .kept) (omega arith) (walk-kept w)
+  walk-kept : {before after ms es : List ℕ} {bs : List Bool} → Walk words ts d i before after bs ms es → Kept d before after
+  walk-kept no-field = kept-all d _
+  walk-kept (next-field (typed-child a) w) = kept-then (a .kept) (omega arith) (walk-kept w)
+  walk-kept (next-field not-visited w) = walk-kept w
 
   walk-stands :
-      {s : Script} {Γ : Context} → Lent s words ts → i < nodeCount s → {before after ms es : List ℕ} →
-      Walk words ts d i before after ms es → Binds s before d Γ → Below i ms → d + heights (terms (tree s) ms) ≤ length before →
-      Stand s Γ es (terms (tree s) ms)
-  unfolding terms heights All
-  walk-stands l h no-child b u r = none-left
-  walk-stands {s} {Γ} l h (next-child a w) b u r =
-      and-then (a .reply (u .0) .reply s Γ l b (omega (arith, u .0)) (omega arith))
+      {s : Script} {Γ : Context} → Lent s words ts → i < nodeCount s → {before after ms es : List ℕ} {bs : List Bool} →
+      Walk words ts d i before after bs ms es → Binds s before d Γ → Below i (kept bs ms) →
+      d + heights (terms (tree s) (kept bs ms)) ≤ length before → Stand s Γ bs es (terms (tree s) (kept bs ms))
+  unfolding kept keptIf terms heights All
+  walk-stands l h no-field b u r = none-left
+  walk-stands {s} {Γ} l h (next-field (typed-child a) w) b u r =
+      child-then (a .reply (u .0) .reply s Γ l b (omega (arith, u .0)) (omega arith))
       (walk-stands l h w (binds-kept b (a .kept)) (u .1) (omega (arith, a .kept .same)))
+  walk-stands l h (next-field not-visited w) b u r = other-then (walk-stands l h w b u r)
 
-  -- Theorem: the answer of a node whose children are answered.
-  pub at-node :
-      {before after ms es : List ℕ} {w k r : ℕ} → w ≡ getD words i 0 → k ≡ wordKind w → (k ≡ 0 → ⊥) →
-      childFields (getD rows k blankRow .uses) (wordA w ∷ wordB w ∷ wordC w ∷ []) ≡ ms → Walk words ts d i before after ms es →
-      Ruled ts k i es r → Answers words ts before after d i r
-  unfolding rowOf nodeAt
-  at-node {before} {ms} {es} {w} {k} e q n f walk rule = record {
-    kept = walk-kept walk;
+-- ---- a node over its fields
+
+-- the walk of three fields
+three-fields :
+    {words ts us vs xs ys : List ℕ} {d i a b c e f g : ℕ} {p q r : Bool} → FieldAnswers words ts d i a us p vs e →
+    FieldAnswers words ts d i b vs q xs f → FieldAnswers words ts d i c xs r ys g →
+    Walk words ts d i us ys (p ∷ q ∷ r ∷ []) (a ∷ b ∷ c ∷ []) (e ∷ f ∷ g ∷ [])
+three-fields a b c = next-field a (next-field b (next-field c no-field))
+
+module _ {words ts before pushed after : List ℕ} {d inner i w p e f g : ℕ} {us : List Use} (o : w ≡ getD words i 0)
+    (us-row : us ≡ getD rows (wordKind w) blankRow .uses) (param : p ≡ parameterBy (getD us 1 Nothing) (wordB w))
+    (enter : Entered p (wordA w) d before (isBinder (getD us 0 Nothing)) inner pushed)
+    (walk : Walk words ts inner i pushed after (places us) (wordA w ∷ wordB w ∷ wordC w ∷ []) (e ∷ f ∷ g ∷ [])) where
+  stays : Kept d before after
+  stays = let (stay, deep) = entered-kept enter in kept-then stay deep (walk-kept walk)
+
+  -- by the uses of the kind's row
+  by-uses : {r : ℕ} → Ruled ts after d i (wordKind w) (wordA w) p e f g r → Answers words ts before after d i r
+  unfolding fields kept
+  by-uses rule = record {
+    kept = stays;
     reply = λ s Γ l b h room.
-        let ok = sound s (l .passes) in
-        let c : children (nodeAt s i) ≡ ms = node-children l h e (λ z. n (q ∙ z)) ∙ rw (← q) f in
-        let g : nodeAt s i .kind ≡ k = node-kind l h e ∙ sym q in
-        let high : height (tree s i) ≡ suc (heights (terms (tree s) ms)) = tree-height s ok i h ∙ rw c in
-        rw (tree-node s ok i h, c, g)
-        (rule .reply words s Γ (nodeAt s i) _ l h (walk-stands l h walk b (rw c at (below-parent s ok i h)) (omega arith)));
+        let x = word-drawn l h o in
+        let nd = wordNode w (nodeAt s i .value) in
+        let c : childFields us (fields nd) ≡ kept (places us) (wordA w ∷ wordB w ∷ wordC w ∷ []) = kept-fields us _ _ _ in
+        let high : height (tree s i) ≡ suc (heights (terms (tree s) (kept (places us) (wordA w ∷ wordB w ∷ wordC w ∷ [])))) = x .high ∙ rw (← us-row, c) in
+        let k : p < typeCount s = rw (param, us-row) (x .known) in
+        let (inner-binds, deep, same) = entered-binds enter b (omega arith) k in
+        let st = walk-stands l h walk inner-binds (rw (← us-row, c) at (x .falls)) (omega arith) in
+        rw (x .term, ← us-row, c)
+        (rule .reply words s Γ nd _ l h (binds-kept b stays) (omega (arith, stays .same))
+        (record { known = kind-below l h o; name = refl; parameter = rw (← us-row) param; listed = k; fields = rw (← us-row, ← param) st }));
   }
 
--- which fields are children, and that none is a constant's kind
+-- the row that the code reads at a kind's number is that of the node's kind
+pub of-row :
+    {words : List ℕ} {i w k : ℕ} {row : Row} (n : ℕ) → w ≡ getD words i 0 → k ≡ wordKind w → row ≡ rowAt n → k ≡ n → RowOf words i w row
+of-row n o e r q = record { word = o; row = rw (← e, q) r }
 
-one-field : {k : ℕ} (x y z : ℕ) → OneChild k → childFields (getD rows k blankRow .uses) (x ∷ y ∷ z ∷ []) ≡ x ∷ []
-unfolding rows childFields ifChild
-one-field x y z lifts = refl
-one-field x y z fixes = refl
-one-field x y z fixes-dynamic = refl
+-- Theorem: the answer of a node whose fields are answered, each by its use in the table's row.
+pub at-fields :
+    {words ts before pushed first second after : List ℕ} {d inner i w p q x a b c e f g r : ℕ} {row : Row} {n u v z : Bool} →
+    RowOf words i w row → p ≡ q → q ≡ parameterBy (row .1) (wordB w) →
+    Entered p x d before n inner pushed → n ≡ isBinder (row .0) → x ≡ wordA w →
+    FieldAnswers words ts inner i a pushed u first e → u ≡ isChild (row .0) → a ≡ wordA w →
+    FieldAnswers words ts inner i b first v second f → v ≡ isChild (row .1) → b ≡ wordB w →
+    FieldAnswers words ts inner i c second z after g → z ≡ isChild (row .2) → c ≡ wordC w →
+    Ruled ts after d i (wordKind w) (wordA w) p e f g r → Answers words ts before after d i r
+unfolding rowAt
+at-fields {w = w} o pq q enter n x a u ea b v eb c z ec rule =
+    let k = wordKind w in
+    by-uses (o .word) refl (rw (o .row, row-use k 1) at (pq ∙ q)) (rw (n, o .row, x, row-use k 0) at enter)
+    (three-fields (rw (u, o .row, ea, row-use k 0) at a) (rw (v, o .row, eb, row-use k 1) at b) (rw (z, o .row, ec, row-use k 2) at c)) rule
 
-two-fields : {k : ℕ} (x y z : ℕ) → TwoChildren k → childFields (getD rows k blankRow .uses) (x ∷ y ∷ z ∷ []) ≡ x ∷ y ∷ []
-unfolding rows childFields ifChild
-two-fields x y z applies = refl
-two-fields x y z operates = refl
-two-fields x y z applies-dynamic = refl
-two-fields x y z operates-dynamic = refl
-
-three-fields : {k : ℕ} (x y z : ℕ) → ThreeChildren k → childFields (getD rows k blankRow .uses) (x ∷ y ∷ z ∷ []) ≡ x ∷ y ∷ z ∷ []
-unfolding rows childFields ifChild
-three-fields x y z chooses = refl
-three-fields x y z chooses-dynamic = refl
-
-one-some : {k : ℕ} → OneChild k → 0 < k
-one-some lifts = omega arith
-one-some fixes = omega arith
-one-some fixes-dynamic = omega arith
-
-two-some : {k : ℕ} → TwoChildren k → 0 < k
-two-some applies = omega arith
-two-some operates = omega arith
-two-some applies-dynamic = omega arith
-two-some operates-dynamic = omega arith
-
-three-some : {k : ℕ} → ThreeChildren k → 0 < k
-three-some chooses = omega arith
-three-some chooses-dynamic = omega arith
-
--- a node's word has a kind of an arm
-module _ {words : List ℕ} {i w k : ℕ} (o : w ≡ getD words i 0) (e : k ≡ wordKind w) where
-  pub of-one : (k ≡ 2) ⊎ ((k ≡ 5) ⊎ (k ≡ 10)) → WordOf words i w OneChild
-  of-one (inl q) = record { word = o; kind = rw (← e, q) lifts }
-  of-one (inr (inl q)) = record { word = o; kind = rw (← e, q) fixes }
-  of-one (inr (inr q)) = record { word = o; kind = rw (← e, q) fixes-dynamic }
-
-  pub of-two : (k ≡ 4) ⊎ ((k ≡ 7) ⊎ ((k ≡ 9) ⊎ (k ≡ 12))) → WordOf words i w TwoChildren
-  of-two (inl q) = record { word = o; kind = rw (← e, q) applies }
-  of-two (inr (inl q)) = record { word = o; kind = rw (← e, q) operates }
-  of-two (inr (inr (inl q))) = record { word = o; kind = rw (← e, q) applies-dynamic }
-  of-two (inr (inr (inr q))) = record { word = o; kind = rw (← e, q) operates-dynamic }
-
-  pub of-three : (k ≡ 6) ⊎ (k ≡ 11) → WordOf words i w ThreeChildren
-  of-three (inl q) = record { word = o; kind = rw (← e, q) chooses }
-  of-three (inr q) = record { word = o; kind = rw (← e, q) chooses-dynamic }
-
-  pub of-binder : (k ≡ 3) ⊎ (k ≡ 8) → WordOf words i w BindsName
-  of-binder (inl q) = record { word = o; kind = rw (← e, q) abstracts }
-  of-binder (inr q) = record { word = o; kind = rw (← e, q) abstracts-dynamic }
-
-module _ {words ts : List ℕ} {d i w : ℕ} where
-  pub at-one :
-      {before after : List ℕ} {k m e r : ℕ} → WordOf words i w OneChild → k ≡ wordKind w → ChildAnswers words ts before after d i m e →
-      m ≡ wordA w → Ruled ts k i (e ∷ []) r → Answers words ts before after d i r
-  at-one {k} o q a x rule =
-      let t : OneChild k = rw q (o .kind) in
-      let n = one-some t in
-      at-node (o .word) q (λ z. omega arith) (one-field _ _ _ t) (next-child (rw x at a) no-child) rule
-
-  pub at-two :
-      {before between after : List ℕ} {k m p e f r : ℕ} → WordOf words i w TwoChildren → k ≡ wordKind w →
-      ChildAnswers words ts before between d i m e → ChildAnswers words ts between after d i p f → m ≡ wordA w → p ≡ wordB w →
-      Ruled ts k i (e ∷ f ∷ []) r → Answers words ts before after d i r
-  at-two {k} o q a b x y rule =
-      let t : TwoChildren k = rw q (o .kind) in
-      let n = two-some t in
-      at-node (o .word) q (λ z. omega arith) (two-fields _ _ _ t) (next-child (rw x at a) (next-child (rw y at b) no-child)) rule
-
-  pub at-three :
-      {before first second after : List ℕ} {k m p n e f g r : ℕ} → WordOf words i w ThreeChildren → k ≡ wordKind w →
-      ChildAnswers words ts before first d i m e → ChildAnswers words ts first second d i p f → ChildAnswers words ts second after d i n g →
-      m ≡ wordA w → p ≡ wordB w → n ≡ wordC w → Ruled ts k i (e ∷ f ∷ g ∷ []) r → Answers words ts before after d i r
-  at-three {k} o q a b c x y z rule =
-      let t : ThreeChildren k = rw q (o .kind) in
-      let n = three-some t in
-      at-node (o .word) q (λ v. omega arith) (three-fields _ _ _ t)
-      (next-child (rw x at a) (next-child (rw y at b) (next-child (rw z at c) no-child))) rule
-
--- ---- a binder
-
-body-field : {k : ℕ} (x y z : ℕ) → BindsName k → childFields (getD rows k blankRow .uses) (x ∷ y ∷ z ∷ []) ≡ z ∷ []
-unfolding rows childFields ifChild
-body-field x y z abstracts = refl
-body-field x y z abstracts-dynamic = refl
-
-binder-some : {k : ℕ} → BindsName k → 0 < k
-binder-some abstracts = omega arith
-binder-some abstracts-dynamic = omega arith
-
-module _ {words ts before pushed after : List ℕ} {d inner i w g p v m e : ℕ}
-    (o : w ≡ getD words i 0) (name : g ≡ wordA w) (pairs : Pair v p g) (push : Pushed v d inner before pushed) (f : m ≡ wordC w)
-    (a : ChildAnswers words ts pushed after inner i m e) where
-  module _ (s : Script) (Γ : Context) (l : Lent s words ts) (b : Binds s before d Γ) (h : i < nodeCount s)
-      (room : d + height (tree s i) ≤ length before) (n : BindsName (wordKind w)) where
-    body-children : children (nodeAt s i) ≡ m ∷ []
-    body-children =
-        let z = binder-some n in
-        node-children l h o (λ q. omega arith) ∙ body-field _ _ _ n ∙ rw f
-
-    -- the body under the binder
-    body-stands : p < typeCount s → Stands s e (check s (bind (wordA w) (typeOf s p) Γ) (tree s m))
-    unfolding terms heights All
-    body-stands known =
-        let ok = sound s (l .passes) in
-        let high : height (tree s i) ≡ suc (max (height (tree s m)) 0) = tree-height s ok i h ∙ rw body-children in
-        let (x, _) = push .top (omega arith) in
-        let u = rw body-children at (below-parent s ok i h) in
-        a .reply (u .0) .reply s _ l (binds-more push (omega arith) (rw name at pairs) known b) (omega (arith, u .0)) (omega (arith, push .kept .same))
-
-    static-tree : wordKind w ≡ 3 → tree s i ≡ lam i (wordA w) (wordB w) (tree s m)
-    unfolding rowOf rows build childAt terms nodeAt
-    static-tree q =
-        let (x, y, _) = node-field l h o (λ z. omega arith) in
-        tree-node s (sound s (l .passes)) i h ∙ rw (body-children, node-kind l h o, q, ← x, ← y)
-
-    dynamic-tree : wordKind w ≡ 8 → tree s i ≡ dlam i (wordA w) (tree s m)
-    unfolding rowOf rows build childAt terms nodeAt
-    dynamic-tree q =
-        let (x, _, _) = node-field l h o (λ z. omega arith) in
-        tree-node s (sound s (l .passes)) i h ∙ rw (body-children, node-kind l h o, q, ← x)
-
-    binder-stands :
-        {k r : ℕ} → p ≡ pick (eqb (wordKind w) 3) (wordB w) 1 → k ≡ wordKind w → BindsName k → BinderRuled ts k p i e r →
-        Stands s r (check s Γ (tree s i))
-    unfolding typeCount
-    binder-stands pe q abstracts rule =
-        let x : p ≡ wordB w = rw (← q) at pe in
-        let (_, y, _) = node-field l h o (λ z. omega arith) in
-        let known : p < typeCount s = omega (arith, named-type s (sound s (l .passes)) i h (node-kind l h o ∙ sym q)) in
-        rw (static-tree (sym q), ← x) (rule .of-static words s Γ (wordA w) (tree s m) refl l h known (body-stands known))
-    binder-stands pe q abstracts-dynamic rule =
-        let x : p ≡ 1 = rw (← q) at pe in
-        rw (dynamic-tree (sym q)) (rule .of-dynamic words s Γ (wordA w) (tree s m) refl l h x (body-stands (omega arith)))
-
-  -- Theorem: the answer of a binder whose body is answered.
-  pub at-binder :
-      {k r : ℕ} → BindsName (wordKind w) → p ≡ pick (eqb (wordKind w) 3) (wordB w) 1 → k ≡ wordKind w → BinderRuled ts k p i e r →
-      Answers words ts before after d i r
-  at-binder n pe q rule = record {
-    kept = kept-then (push .kept) (push .least) (a .kept);
-    reply = λ s Γ l b h room. binder-stands s Γ l b h room n pe q (rw q n) rule;
-  }
-
--- ---- a node without children
-
--- a kind below 13 that has no arm of its own is a constant's
-last-kind :
-    (k : ℕ) → k < 13 → (k ≡ 1 → ⊥) → ((k ≡ 2) ⊎ ((k ≡ 5) ⊎ (k ≡ 10)) → ⊥) → ((k ≡ 3) ⊎ (k ≡ 8) → ⊥) →
-    ((k ≡ 4) ⊎ ((k ≡ 7) ⊎ ((k ≡ 9) ⊎ (k ≡ 12))) → ⊥) → ((k ≡ 6) ⊎ (k ≡ 11) → ⊥) → k ≡ 0
-last-kind zero h a b c d e = refl
-last-kind (suc zero) h a b c d e = absurd (a refl)
-last-kind (suc (suc zero)) h a b c d e = absurd (b (inl refl))
-last-kind (suc (suc (suc zero))) h a b c d e = absurd (c (inl refl))
-last-kind (suc (suc (suc (suc zero)))) h a b c d e = absurd (d (inl refl))
-last-kind (suc (suc (suc (suc (suc zero))))) h a b c d e = absurd (b (inr (inl refl)))
-last-kind (suc (suc (suc (suc (suc (suc zero)))))) h a b c d e = absurd (e (inl refl))
-last-kind (suc (suc (suc (suc (suc (suc (suc zero))))))) h a b c d e = absurd (d (inr (inl refl)))
-last-kind (suc (suc (suc (suc (suc (suc (suc (suc zero)))))))) h a b c d e = absurd (c (inr refl))
-last-kind (suc (suc (suc (suc (suc (suc (suc (suc (suc zero))))))))) h a b c d e = absurd (d (inr (inr (inl refl))))
-last-kind (suc (suc (suc (suc (suc (suc (suc (suc (suc (suc zero)))))))))) h a b c d e = absurd (b (inr (inr refl)))
-last-kind (suc (suc (suc (suc (suc (suc (suc (suc (suc (suc (suc zero))))))))))) h a b c d e = absurd (e (inr refl))
-last-kind (suc (suc (suc (suc (suc (suc (suc (suc (suc (suc (suc (suc zero)))))))))))) h a b c d e = absurd (d (inr (inr (inr refl))))
-last-kind (suc (suc (suc (suc (suc (suc (suc (suc (suc (suc (suc (suc (suc k))))))))))))) h a b c d e = let z : ⊥ = omega arith in absurd z
-
-module _ {words ts stack : List ℕ} {d i w : ℕ} (o : w ≡ getD words i 0) where
-  pub at-variable :
-      {x r : ℕ} → wordKind w ≡ 1 → x ≡ wordA w → (d ≤ length stack → r ≡ bound stack x i d) → Answers words ts stack stack d i r
-  unfolding rowOf rows build nodeAt check maxNodes
-  at-variable q f g = record {
-    kept = kept-all d stack;
-    reply = λ s Γ l b h room.
-        let ok = sound s (l .passes) in
-        let (x, _, _) = node-field l h o (λ z. omega arith) in
-        rw (tree-node s ok i h, node-kind l h o, q, ← x, ← f, g (omega arith))
-        (bound-stands s ok i _ (omega (arith, ok .within .nodes)) b);
-  }
-
-  pub at-constant :
-      {k r : ℕ} → k ≡ wordKind w → (k ≡ 1 → ⊥) → ((k ≡ 2) ⊎ ((k ≡ 5) ⊎ (k ≡ 10)) → ⊥) → ((k ≡ 3) ⊎ (k ≡ 8) → ⊥) →
-      ((k ≡ 4) ⊎ ((k ≡ 7) ⊎ ((k ≡ 9) ⊎ (k ≡ 12))) → ⊥) → ((k ≡ 6) ⊎ (k ≡ 11) → ⊥) → r ≡ typeAnswer 0 →
-      Answers words ts stack stack d i r
-  unfolding rowOf rows build nodeAt check typeCount
-  at-constant {k} q a b c e f g = record {
-    kept = kept-all d stack;
-    reply = λ s Γ l _ h room.
-        let ok = sound s (l .passes) in
-        let n = node-kind l h o in
-        let z = kind-known s ok i h in
-        let m : wordKind w ≡ 0 = sym q ∙ last-kind k (omega arith) a b c e f in
-        rw (tree-node s ok i h, n, m, g, ← type-zero s) (type-stands s ok 0 (omega arith));
-  }
+-- a kind past the table
+pub at-no-kind :
+    {words ts stack : List ℕ} {d i w k r : ℕ} → w ≡ getD words i 0 → k ≡ wordKind w → NotBelow 13 k → Answers words ts stack stack d i r
+at-no-kind {k} o q n = record {
+  kept = kept-all _ _;
+  reply = λ s Γ l b h room.
+      let z : ⊥ = omega (arith, not-below 13 k n, kind-below l h o) in
+      absurd z;
+}
 
 -- ---- a child
 

@@ -1,27 +1,28 @@
 -- The rules on numbers of types stand for the rules on types, for each kind with children: a node's answer from the answers at its
 -- children. Assumes nothing.
-use Prim.Native.Nat.{ℕ, _+_, _-_, _≤_, _<_}
+use Prim.Native.Nat.{ℕ, zero, suc, _+_, _-_, _≤_, _<_}
 use mathlib.Core.Path.{_≡_, refl}
 use mathlib.Core.Logic.{⊎-elim}
-use mathlib.Core.Bool.{Bool, true, false, _&&_}
+use mathlib.Core.Bool.{Bool, true, false, _&&_, and-true}
 use mathlib.Core.List.{List, [], _∷_}
 use native.Mathlib.Omega.{arith}
 use lib.ListN.{length, getD}
 use lib.Dec.{leb, ltb, eqb}
 use borrow.Author.Tests.{leb-true, ltb-true, ltb-false}
 use Rattle.lambdamix.specs.Limits.{maxTypes, maxNodes}
-use Rattle.lambdamix.specs.Script.{Script, Node, rows, blankRow, nodeCount}
-use Rattle.lambdamix.specs.Term.{Terms, arity, childAt, build}
-use Rattle.lambdamix.specs.Types.{Ty, typeOf, typeCount}
-use Rattle.lambdamix.specs.Typing.{Context}
-use Rattle.lambdamix.specs.Checker.{Checked, both, gather, rule, own, provided, applyRule, fixRule, abstrBy, abstrRule, dynRule, check, checkAll}
+use Rattle.lambdamix.specs.Script.{Script, Node, Row, rows, blankRow, nodeCount}
+use Rattle.lambdamix.specs.Term.{Term, Terms, arity, childAt, build}
+use Rattle.lambdamix.specs.Types.{Ty, D, typeOf, typeCount}
+use Rattle.lambdamix.specs.Typing.{Context, bind}
+use Rattle.lambdamix.specs.Checker.{typed, both, gather, rule, own, provided, applyRule, fixRule, abstrBy, abstrRule, abstrDynRule, allDynamic, dynRule, check, checkAll}
 use Rattle.lambdamix.proofs.Tests.{holds-or-fails}
-use Rattle.annotation.specs.Answers.{limit16, pairWord, typeBase, typeIn, Stands, givenBy, parameterOf, resultOf, applyAnswer, fixAnswer, lowest}
-use Rattle.annotation.specs.Walks.{Lent, Listing, listed-at, not-listed, OneChild, lifts, fixes, fixes-dynamic, TwoChildren, applies, operates, applies-dynamic, operates-dynamic, ThreeChildren, chooses, chooses-dynamic, Stand, none-left, and-then, Ruled, BinderRuled}
+use Rattle.annotation.specs.Answers.{limit16, pairWord, typeBase, typeAnswer, typeIn, Stands, givenBy, parameterOf, resultOf, applyAnswer, fixAnswer, lowest}
+use Rattle.tables.proofs.TreeForms.{All, at-all}
+use Rattle.annotation.specs.Walks.{Lent, Listing, listed-at, not-listed, bound, Stand, none-left, child-then, other-then, places, inside, Ruled}
 use Rattle.script.proofs.Sound.{Sound, sound}
-use Rattle.annotation.proofs.TypeNumbers.{pair, parts, type-one, function-type, listed-pair, unlisted-pair, apply-numbers, fix-numbers, lift-numbers, if-numbers, op-numbers, dynamic-one, dynamic-two, dynamic-three, dynamic-function}
-use Rattle.annotation.proofs.Contexts.{type-stands, fault-stands, given-stands}
-use Rattle.annotation.proofs.Faults.{told, told-alone, told-gather, told-both, both-types, told-rule, typed-answer}
+use Rattle.annotation.proofs.TypeNumbers.{pair, parts, type-zero, type-one, same-dynamic, function-type, listed-pair, unlisted-pair, apply-numbers, fix-numbers, lift-numbers, if-numbers, op-numbers, dynamic-function}
+use Rattle.annotation.proofs.Contexts.{type-stands, fault-stands, given-stands, bound-stands}
+use Rattle.annotation.proofs.Faults.{Told, told, told-alone, told-gather, told-first, told-second, told-both, both-types, told-rule, typed-answer}
 
 -- ---- the rules on numbers
 
@@ -96,158 +97,223 @@ module _ {s : Script} {words ts : List ℕ} (lent : Lent s words ts) (i : ℕ) (
       rw (unlisted-pair s ok t u m k (λ j b p q. let w = lent .types .each j b in let v = w .high in let x = w .low in other j (omega arith) (omega arith)))
       (fault-stands s 10 i (omega arith) small)
 
--- ---- a node over its children, by its kind
+-- ---- the fault among the answers at a node's fields, by those that are children
 
-module _ {s : Script} {words ls : List ℕ} (lent : Lent s words ls) (Γ : Context) (i : ℕ) (h : i < nodeCount s) (nd : Node) where
-  abbrev over : ℕ → Terms → Checked Ty
-  over k ts = check s Γ (build (getD rows k blankRow .step) i nd ts)
+neutral : typeBase ≤ lowest (typeAnswer 1) (typeAnswer 1)
+unfolding lowest
+neutral = omega arith
 
-  -- a fault goes first
+module _ {s : Script} {Γ : Context} where
+  no-fault :
+      {e f g : ℕ} {ts : Terms} → Stand s Γ (false ∷ false ∷ false ∷ []) (e ∷ f ∷ g ∷ []) ts → lowest e (lowest f g) < typeBase → ⊥
+  unfolding lowest
+  no-fault (other-then (other-then (other-then none-left))) l = omega arith
 
-  one-fault : {k e : ℕ} {ts : Terms} → OneChild k → e < typeBase → Stand s Γ (e ∷ []) ts → Stands s e (over k ts)
-  unfolding rows build childAt check checkAll
-  one-fault lifts l (and-then p none-left) = told-rule s i _ (told p) l
-  one-fault fixes l (and-then p none-left) = told-rule s i _ (told p) l
-  one-fault fixes-dynamic l (and-then p none-left) = told-rule s i _ (told-gather (told-alone (told p) _)) l
+  -- the fault of the children as a static step takes them, and as a dynamic one does
+  told-one :
+      {e f g : ℕ} {ts : Terms} → Stand s Γ (true ∷ false ∷ false ∷ []) (e ∷ f ∷ g ∷ []) ts →
+      Told (lowest e (lowest f g)) (check s Γ (childAt ts 0)) × Told (lowest e (lowest f g)) (checkAll s Γ ts)
+  unfolding childAt checkAll
+  told-one (child-then p (other-then (other-then none-left))) =
+      let q = told-first (told p) neutral in
+      (q, told-gather (told-alone q _))
 
-  dynamic-two-fault :
-      {e f : ℕ} {ts : Terms} → lowest e f < typeBase → Stand s Γ (e ∷ f ∷ []) ts →
-      Stands s (lowest e f) (rule i (dynRule 2) (checkAll s Γ ts))
-  unfolding checkAll
-  dynamic-two-fault l (and-then p (and-then q none-left)) =
-      told-rule s i _ (told-gather (told-both (told p) (told-gather (told-alone (told q) _)))) l
+  told-last :
+      {e f g : ℕ} {ts : Terms} → Stand s Γ (false ∷ false ∷ true ∷ []) (e ∷ f ∷ g ∷ []) ts →
+      Told (lowest e (lowest f g)) (check s Γ (childAt ts 0))
+  unfolding childAt
+  told-last (other-then (other-then (child-then p none-left))) = told-second (told-second (told p) (omega arith)) (omega arith)
 
-  two-fault :
-      {k e f : ℕ} {ts : Terms} → TwoChildren k → lowest e f < typeBase → Stand s Γ (e ∷ f ∷ []) ts → Stands s (lowest e f) (over k ts)
-  unfolding rows build childAt check arity
-  two-fault applies l (and-then p (and-then q none-left)) = told-rule s i _ (told-both (told p) (told q)) l
-  two-fault operates l (and-then p (and-then q none-left)) = told-rule s i _ (told-both (told p) (told q)) l
-  two-fault applies-dynamic l st = dynamic-two-fault l st
-  two-fault operates-dynamic l st = dynamic-two-fault l st
+  told-two :
+      {e f g : ℕ} {ts : Terms} → Stand s Γ (true ∷ true ∷ false ∷ []) (e ∷ f ∷ g ∷ []) ts →
+      Told (lowest e (lowest f g)) (both (check s Γ (childAt ts 0)) (check s Γ (childAt ts 1)))
+      × Told (lowest e (lowest f g)) (checkAll s Γ ts)
+  unfolding childAt checkAll
+  told-two (child-then p (child-then q (other-then none-left))) =
+      let r = told-first {n = typeAnswer 1} (told q) (omega arith) in
+      (told-both (told p) r, told-gather (told-both (told p) (told-gather (told-alone r _))))
 
-  three-fault :
-      {k e f g : ℕ} {ts : Terms} → ThreeChildren k → lowest e (lowest f g) < typeBase → Stand s Γ (e ∷ f ∷ g ∷ []) ts →
-      Stands s (lowest e (lowest f g)) (over k ts)
-  unfolding rows build childAt check checkAll
-  three-fault chooses l (and-then p (and-then q (and-then r none-left))) =
-      told-rule s i _ (told-both (told p) (told-both (told q) (told r))) l
-  three-fault chooses-dynamic l (and-then p (and-then q (and-then r none-left))) =
-      told-rule s i _ (told-gather (told-both (told p) (told-gather (told-both (told q) (told-gather (told-alone (told r) _)))))) l
+  told-three :
+      {e f g : ℕ} {ts : Terms} → Stand s Γ (true ∷ true ∷ true ∷ []) (e ∷ f ∷ g ∷ []) ts →
+      Told (lowest e (lowest f g)) (both (check s Γ (childAt ts 0)) (both (check s Γ (childAt ts 1)) (check s Γ (childAt ts 2))))
+      × Told (lowest e (lowest f g)) (checkAll s Γ ts)
+  unfolding childAt checkAll
+  told-three (child-then p (child-then q (child-then r none-left))) = (
+    told-both (told p) (told-both (told q) (told r)),
+    told-gather (told-both (told p) (told-gather (told-both (told q) (told-gather (told-alone (told r) _))))),
+  )
 
-  -- else the rule on the types
+-- a fault goes before the rule of each row
+module _ (s : Script) (Γ : Context) (i : ℕ) (nd : Node) (e f g : ℕ) (ts : Terms) (l : lowest e (lowest f g) < typeBase) where
+  abbrev FaultFirst : Row → Type 0
+  FaultFirst r =
+      Stand s (inside s Γ (r .uses) nd) (places (r .uses)) (e ∷ f ∷ g ∷ []) ts →
+      Stands s (lowest e (lowest f g)) (check s Γ (build (r .step) i nd ts))
 
-  lift-type :
-      {e : ℕ} {ts : Terms} → typeBase ≤ e → Stand s Γ (e ∷ []) ts → Stands s (givenBy (eqb (typeIn e) 0) 1 i) (over 2 ts)
-  unfolding rows build childAt check rule typeCount
-  lift-type {e} l (and-then p none-left) =
-      rw (typed-answer p l, lift-numbers s (ok lent i h) (typeIn e) (p .known l))
+  leaf : FaultFirst blankRow
+  leaf st = absurd (no-fault st l)
+
+  fault-rows : All FaultFirst rows
+  unfolding All rows build check arity
+  fault-rows = (
+    λ st. absurd (no-fault st l),
+    (
+      λ st. absurd (no-fault st l),
+      (
+        λ st. told-rule s i _ (told-one st .0) l,
+        (
+          λ st. told-rule s i _ (told-last st) l,
+          (
+            λ st. told-rule s i _ (told-two st .0) l,
+            (
+              λ st. told-rule s i _ (told-one st .0) l,
+              (
+                λ st. told-rule s i _ (told-three st .0) l,
+                (
+                  λ st. told-rule s i _ (told-two st .0) l,
+                  (
+                    λ st. told-rule s i _ (rw (type-one s) at (told-last st)) l,
+                    (
+                      λ st. told-rule s i _ (told-two st .1) l,
+                      (
+                        λ st. told-rule s i _ (told-one st .1) l,
+                        (
+                          λ st. told-rule s i _ (told-three st .1) l,
+                          (
+                            λ st. told-rule s i _ (told-two st .1) l,
+                            tt,
+                          ),
+                        ),
+                      ),
+                    ),
+                  ),
+                ),
+              ),
+            ),
+          ),
+        ),
+      ),
+    ),
+  )
+
+  fault-first : (k : ℕ) → FaultFirst (getD rows k blankRow)
+  fault-first k = at-all FaultFirst blankRow rows leaf fault-rows k
+
+-- ---- the types of a node's children
+
+-- a child has the type of its answer
+abbrev Typed : Script → Context → ℕ → Term → Type 0
+Typed s Γ e t = (check s Γ t ≡ typed (typeOf s (typeIn e))) × (typeIn e < typeCount s)
+
+module _ {s : Script} {Γ : Context} where
+  one-typed :
+      {e f g : ℕ} {ts : Terms} → Stand s Γ (true ∷ false ∷ false ∷ []) (e ∷ f ∷ g ∷ []) ts → typeBase ≤ e → Typed s Γ e (childAt ts 0)
+  unfolding childAt
+  one-typed (child-then p _) l = (typed-answer p l, p .known l)
+
+  last-typed :
+      {e f g : ℕ} {ts : Terms} → Stand s Γ (false ∷ false ∷ true ∷ []) (e ∷ f ∷ g ∷ []) ts → typeBase ≤ g → Typed s Γ g (childAt ts 0)
+  unfolding childAt
+  last-typed (other-then (other-then (child-then p _))) l = (typed-answer p l, p .known l)
+
+  two-typed :
+      {e f g : ℕ} {ts : Terms} → Stand s Γ (true ∷ true ∷ false ∷ []) (e ∷ f ∷ g ∷ []) ts → typeBase ≤ e → typeBase ≤ f →
+      Typed s Γ e (childAt ts 0) × Typed s Γ f (childAt ts 1)
+  unfolding childAt
+  two-typed (child-then p (child-then q _)) l m = ((typed-answer p l, p .known l), (typed-answer q m, q .known m))
+
+  three-typed :
+      {e f g : ℕ} {ts : Terms} → Stand s Γ (true ∷ true ∷ true ∷ []) (e ∷ f ∷ g ∷ []) ts → typeBase ≤ e → typeBase ≤ f → typeBase ≤ g →
+      Typed s Γ e (childAt ts 0) × Typed s Γ f (childAt ts 1) × Typed s Γ g (childAt ts 2)
+  unfolding childAt
+  three-typed (child-then p (child-then q (child-then r _))) l m n =
+      ((typed-answer p l, p .known l), (typed-answer q m, q .known m), (typed-answer r n, r .known n))
+
+-- a number is none of those below another
+unfoldable pub NotBelow : ℕ → ℕ → Type 0
+NotBelow zero k = Unit {0}
+NotBelow (suc j) k = NotBelow j k × (k ≡ j → ⊥)
+
+pub not-below : (j k : ℕ) → NotBelow j k → j ≤ k
+unfolding NotBelow
+not-below zero k n = omega arith
+not-below (suc j) k n = let l = not-below j k (n .0) in omega (arith, n .1)
+
+-- late kinds: all children D, however many
+unfoldable count : List Bool → ℕ
+count [] = 0
+count (true ∷ bs) = suc (count bs)
+count (false ∷ bs) = count bs
+
+unfoldable allD : List ℕ → Bool
+allD [] = true
+allD (e ∷ es) = eqb (typeIn e) 1 && allD es
+
+module _ {s : Script} (ok : Sound s) {Γ : Context} where
+  late-types :
+      {bs : List Bool} {es : List ℕ} {ts : Terms} → Stand s Γ bs es ts → All (λ e. typeBase ≤ e) es →
+      (us : List Ty) × (checkAll s Γ ts ≡ typed us) × (allDynamic (count bs) us ≡ allD es)
+  unfolding All checkAll both gather count allD allDynamic
+  late-types none-left l = ([], refl, refl)
+  late-types (child-then {e = e} p st) l =
+      let (us, c, d) = late-types st (l .1) in
+      (typeOf s (typeIn e) ∷ us, rw (typed-answer p (l .0), c), rw (same-dynamic s ok (typeIn e) (p .known (l .0)), d))
+  late-types (other-then st) l = late-types st (l .1)
+
+data Late : ℕ → Type 0 where
+  late-function : Late 8
+  late-application : Late 9
+  late-fix : Late 10
+  late-if : Late 11
+  late-operation : Late 12
+
+late-from : (j : ℕ) → j < 5 → Late (8 + j)
+late-from zero h = late-function
+late-from (suc zero) h = late-application
+late-from (suc (suc zero)) h = late-fix
+late-from (suc (suc (suc zero))) h = late-if
+late-from (suc (suc (suc (suc zero)))) h = late-operation
+late-from (suc (suc (suc (suc (suc j))))) h = let z : ⊥ = omega arith in absurd z
+
+late-kind : (k : ℕ) → NotBelow 8 k → k < 13 → Late k
+late-kind k n l =
+    let m = not-below 8 k n in
+    let e : 8 + (k - 8) ≡ k = omega arith in
+    rw e at (late-from (k - 8) (omega arith))
+
+abbrev lateAnswer : ℕ → ℕ → ℕ → ℕ → ℕ
+lateAnswer i e f g = givenBy (eqb (typeIn e) 1 && (eqb (typeIn f) 1 && eqb (typeIn g) 1)) 1 i
+
+module _ {s : Script} {words ls : List ℕ} (lent : Lent s words ls) (Γ : Context) {i : ℕ} (h : i < nodeCount s) where
+  late-list :
+      {a b c : Bool} {e f g : ℕ} {ts : Terms} → Stand s Γ (a ∷ b ∷ c ∷ []) (e ∷ f ∷ g ∷ []) ts → typeBase ≤ e → typeBase ≤ f → typeBase ≤ g →
+      Stands s (lateAnswer i e f g) (rule i (dynRule (count (a ∷ b ∷ c ∷ []))) (checkAll s Γ ts))
+  unfolding All rule dynRule allD typeCount
+  late-list {e = e} {f} {g} st l m n =
+      let (us, c, d) = late-types (ok lent i h) st (l, (m, (n, tt))) in
+      let q = given-stands s (ok lent i h) (eqb (typeIn e) 1 && (eqb (typeIn f) 1 && eqb (typeIn g) 1)) 1 i (small lent i h) (λ _. omega arith) in
+      rw (c, d, and-true (eqb (typeIn g) 1)) (rw (type-one s) at q)
+
+  late-body :
+      {y e f g : ℕ} {ts : Terms} → Stand s (bind y (typeOf s 1) Γ) (false ∷ false ∷ true ∷ []) (e ∷ f ∷ g ∷ []) ts → typeBase ≤ g →
+      Stands s (lateAnswer i e f g) (rule i abstrDynRule (check s (bind y D Γ) (childAt ts 0)))
+  unfolding childAt rule typeCount
+  late-body {g = g} (other-then (other-then (child-then p none-left))) l =
+      rw (← type-one s, typed-answer p l, dynamic-function s (ok lent i h) (typeIn g) (p .known l))
       (given-stands s (ok lent i h) _ 1 i (small lent i h) (λ _. omega arith))
 
-  fix-type :
-      {e : ℕ} {ts : Terms} → typeBase ≤ e → Stand s Γ (e ∷ []) ts →
-      Stands s (fixAnswer ls i (typeIn e)) (over 5 ts)
-  unfolding rows build childAt check rule
-  fix-type {e} l (and-then p none-left) = rw (typed-answer p l) (fix-stands lent i h (typeIn e) (p .known l))
+  late-row :
+      {k e f g : ℕ} (nd : Node) {ts : Terms} → Late k →
+      Stand s (inside s Γ (getD rows k blankRow .uses) nd) (places (getD rows k blankRow .uses)) (e ∷ f ∷ g ∷ []) ts →
+      typeBase ≤ e → typeBase ≤ f → typeBase ≤ g → Stands s (lateAnswer i e f g) (check s Γ (build (getD rows k blankRow .step) i nd ts))
+  unfolding rows build check arity count
+  late-row nd late-function st l m n = late-body st n
+  late-row nd late-application st l m n = late-list st l m n
+  late-row nd late-fix st l m n = late-list st l m n
+  late-row nd late-if st l m n = late-list st l m n
+  late-row nd late-operation st l m n = late-list st l m n
 
-  dynamic-one-type :
-      {k e : ℕ} {ts : Terms} → OneChild k → (k ≡ 2 → ⊥) → (k ≡ 5 → ⊥) → typeBase ≤ e → Stand s Γ (e ∷ []) ts →
-      Stands s (givenBy (eqb (typeIn e) 1) 1 i) (over k ts)
-  unfolding rows build childAt check checkAll arity both gather rule typeCount
-  dynamic-one-type lifts a b l st = absurd (a refl)
-  dynamic-one-type fixes a b l st = absurd (b refl)
-  dynamic-one-type {e} fixes-dynamic a b l (and-then p none-left) =
-      rw (typed-answer p l, dynamic-one s (ok lent i h) (typeIn e) (p .known l))
-      (given-stands s (ok lent i h) _ 1 i (small lent i h) (λ _. omega arith))
-
-  apply-type :
-      {e f : ℕ} {ts : Terms} → typeBase ≤ e → typeBase ≤ f → Stand s Γ (e ∷ f ∷ []) ts →
-      Stands s (applyAnswer ls i (typeIn e) (typeIn f)) (over 4 ts)
-  unfolding rows build childAt check both rule
-  apply-type {e} {f} l m (and-then p (and-then q none-left)) =
-      rw (typed-answer p l, typed-answer q m) (apply-stands lent i h (typeIn e) (typeIn f) (p .known l) (q .known m))
-
-  operation-type :
-      {e f : ℕ} {ts : Terms} → typeBase ≤ e → typeBase ≤ f → Stand s Γ (e ∷ f ∷ []) ts →
-      Stands s (givenBy (eqb (typeIn e) 0 && eqb (typeIn f) 0) 0 i) (over 7 ts)
-  unfolding rows build childAt check both rule typeCount
-  operation-type {e} {f} l m (and-then p (and-then q none-left)) =
-      rw (typed-answer p l, typed-answer q m, op-numbers s (ok lent i h) (typeIn e) (typeIn f) (p .known l) (q .known m))
-      (given-stands s (ok lent i h) _ 0 i (small lent i h) (λ _. omega arith))
-
-  dynamic-two-rule :
-      {e f : ℕ} {ts : Terms} → typeBase ≤ e → typeBase ≤ f → Stand s Γ (e ∷ f ∷ []) ts →
-      Stands s (givenBy (eqb (typeIn e) 1 && eqb (typeIn f) 1) 1 i) (rule i (dynRule 2) (checkAll s Γ ts))
-  unfolding checkAll both gather rule typeCount
-  dynamic-two-rule {e} {f} l m (and-then p (and-then q none-left)) =
-      rw (typed-answer p l, typed-answer q m, dynamic-two s (ok lent i h) (typeIn e) (typeIn f) (p .known l) (q .known m))
-      (given-stands s (ok lent i h) _ 1 i (small lent i h) (λ _. omega arith))
-
-  dynamic-two-type :
-      {k e f : ℕ} {ts : Terms} → TwoChildren k → (k ≡ 4 → ⊥) → (k ≡ 7 → ⊥) → typeBase ≤ e → typeBase ≤ f →
-      Stand s Γ (e ∷ f ∷ []) ts → Stands s (givenBy (eqb (typeIn e) 1 && eqb (typeIn f) 1) 1 i) (over k ts)
-  unfolding rows build check arity
-  dynamic-two-type applies a b l m st = absurd (a refl)
-  dynamic-two-type operates a b l m st = absurd (b refl)
-  dynamic-two-type applies-dynamic a b l m st = dynamic-two-rule l m st
-  dynamic-two-type operates-dynamic a b l m st = dynamic-two-rule l m st
-
-  if-type :
-      {e f g : ℕ} {ts : Terms} → typeBase ≤ e → typeBase ≤ f → typeBase ≤ g → Stand s Γ (e ∷ f ∷ g ∷ []) ts →
-      Stands s (givenBy (eqb (typeIn e) 0 && eqb (typeIn f) (typeIn g)) (typeIn f) i) (over 6 ts)
-  unfolding rows build childAt check both rule
-  if-type {e} {f} {g} l m n (and-then p (and-then q (and-then r none-left))) =
-      rw (typed-answer p l, typed-answer q m, typed-answer r n, if-numbers s (ok lent i h) (typeIn e) (typeIn f) (typeIn g) (p .known l) (q .known m) (r .known n))
-      (given-stands s (ok lent i h) _ (typeIn f) i (small lent i h) (λ _. q .known m))
-
-  dynamic-three-type :
-      {k e f g : ℕ} {ts : Terms} → ThreeChildren k → (k ≡ 6 → ⊥) → typeBase ≤ e → typeBase ≤ f → typeBase ≤ g →
-      Stand s Γ (e ∷ f ∷ g ∷ []) ts →
-      Stands s (givenBy (eqb (typeIn e) 1 && (eqb (typeIn f) 1 && eqb (typeIn g) 1)) 1 i) (over k ts)
-  unfolding rows build childAt check checkAll arity both gather rule typeCount
-  dynamic-three-type chooses a l m n st = absurd (a refl)
-  dynamic-three-type {e} {f} {g} chooses-dynamic a l m n (and-then p (and-then q (and-then r none-left))) =
-      rw (typed-answer p l, typed-answer q m, typed-answer r n, dynamic-three s (ok lent i h) (typeIn e) (typeIn f) (typeIn g) (p .known l) (q .known m) (r .known n))
-      (given-stands s (ok lent i h) _ 1 i (small lent i h) (λ _. omega arith))
-
--- ---- a node without a binder: what its rule is told of the answers at its children, and what it gives
-
-module _ {ls : List ℕ} {k i e : ℕ} where
-  pub one-fault-ruled : OneChild k → e < typeBase → Ruled ls k i (e ∷ []) e
-  one-fault-ruled o l = record { reply = λ words s Γ nd ts lent h st. one-fault lent Γ i h nd o l st }
-
-  pub lift-ruled : {t r : ℕ} → k ≡ 2 → typeBase ≤ e → t ≡ typeIn e → r ≡ givenBy (eqb t 0) 1 i → Ruled ls k i (e ∷ []) r
-  lift-ruled q l x y = record { reply = λ words s Γ nd ts lent h st. rw (y, x, q) (lift-type lent Γ i h nd l st) }
-
-  pub fix-ruled : {t r : ℕ} → k ≡ 5 → typeBase ≤ e → t ≡ typeIn e → r ≡ fixAnswer ls i t → Ruled ls k i (e ∷ []) r
-  fix-ruled q l x y = record { reply = λ words s Γ nd ts lent h st. rw (y, x, q) (fix-type lent Γ i h nd l st) }
-
-  pub dynamic-one-ruled :
-      {t r : ℕ} → OneChild k → (k ≡ 2 → ⊥) → (k ≡ 5 → ⊥) → typeBase ≤ e → t ≡ typeIn e → r ≡ givenBy (eqb t 1) 1 i → Ruled ls k i (e ∷ []) r
-  dynamic-one-ruled o a b l x y =
-      record { reply = λ words s Γ nd ts lent h st. rw (y, x) (dynamic-one-type lent Γ i h nd o a b l st) }
-
--- the lowest answer is tested
-module _ {ls : List ℕ} {k i e f m : ℕ} (x : m ≡ lowest e f) where
-  pub two-fault-ruled : TwoChildren k → m < typeBase → Ruled ls k i (e ∷ f ∷ []) m
-  two-fault-ruled o l = record { reply = λ words s Γ nd ts lent h st. rw x (two-fault lent Γ i h nd o (rw x at l) st) }
-
-  module _ {t u r : ℕ} (l : typeBase ≤ m) (y : t ≡ typeIn e) (z : u ≡ typeIn f) where
-    pub apply-ruled : k ≡ 4 → r ≡ applyAnswer ls i t u → Ruled ls k i (e ∷ f ∷ []) r
-    apply-ruled q v =
-        let (a, b) = both-types e f (rw x at l) in
-        record { reply = λ words s Γ nd ts lent h st. rw (v, y, z, q) (apply-type lent Γ i h nd a b st) }
-
-    pub operation-ruled : {c : Bool} → k ≡ 7 → c ≡ (eqb t 0 && eqb u 0) → r ≡ givenBy c 0 i → Ruled ls k i (e ∷ f ∷ []) r
-    operation-ruled q w v =
-        let (a, b) = both-types e f (rw x at l) in
-        record { reply = λ words s Γ nd ts lent h st. rw (v, w, y, z, q) (operation-type lent Γ i h nd a b st) }
-
-    pub dynamic-two-ruled :
-        {c : Bool} → TwoChildren k → (k ≡ 4 → ⊥) → (k ≡ 7 → ⊥) → c ≡ (eqb t 1 && eqb u 1) → r ≡ givenBy c 1 i →
-        Ruled ls k i (e ∷ f ∷ []) r
-    dynamic-two-ruled o p q w v =
-        let (a, b) = both-types e f (rw x at l) in
-        record { reply = λ words s Γ nd ts lent h st. rw (v, w, y, z) (dynamic-two-type lent Γ i h nd o p q a b st) }
+-- ---- what the rule of a node is told of the answers at its fields, and what it gives
 
 three-types :
     {e f g n m : ℕ} → n ≡ lowest f g → m ≡ lowest e n → typeBase ≤ m → (typeBase ≤ e) × (typeBase ≤ f) × (typeBase ≤ g)
@@ -256,52 +322,92 @@ three-types {e} {f} {g} {n} w x l =
     let (c, d) = both-types f g (rw w at b) in
     (a, c, d)
 
-module _ {ls : List ℕ} {k i e f g n m : ℕ} (w : n ≡ lowest f g) (x : m ≡ lowest e n) where
-  pub three-fault-ruled : ThreeChildren k → m < typeBase → Ruled ls k i (e ∷ f ∷ g ∷ []) m
-  three-fault-ruled o l =
-      record { reply = λ words s Γ nd ts lent h st. rw (x, w) (three-fault lent Γ i h nd o (rw (x, w) at l) st) }
+module _ {ls stack : List ℕ} {d i k x p e f g j r : ℕ} (jk : j ≡ k) where
+  pub constant-ruled : j ≡ 0 → r ≡ typeAnswer 0 → Ruled ls stack d i k x p e f g r
+  unfolding rows build check typeCount
+  constant-ruled q y =
+      rw (← jk, q, y)
+      (record { reply = λ words s Γ nd ts lent h b few vis. rw (← type-zero s) (type-stands s (ok lent i h) 0 (omega arith)) })
 
-  module _ {t u v r : ℕ} (l : typeBase ≤ m) (p : t ≡ typeIn e) (q : u ≡ typeIn f) (y : v ≡ typeIn g) where
-    pub if-ruled : {c : Bool} → k ≡ 6 → c ≡ (eqb t 0 && eqb u v) → r ≡ givenBy c u i → Ruled ls k i (e ∷ f ∷ g ∷ []) r
-    if-ruled o z s =
-        let (a, b, c) = three-types w x l in
-        record { reply = λ words s′ Γ nd ts lent h st. rw (s, z, p, q, y, o) (if-type lent Γ i h nd a b c st) }
+  pub variable-ruled : {y : ℕ} → j ≡ 1 → y ≡ x → (d ≤ length stack → r ≡ bound stack y i d) → Ruled ls stack d i k x p e f g r
+  unfolding rows build check
+  variable-ruled q z y =
+      rw (← jk, q)
+      (record { reply = λ words s Γ nd ts lent h b few vis. rw (y few, z, vis .name) (bound-stands s (ok lent i h) i (nd .a) (small lent i h) b) })
 
-    pub dynamic-three-ruled :
-        {c d : Bool} → ThreeChildren k → (k ≡ 6 → ⊥) → d ≡ (eqb u 1 && eqb v 1) → c ≡ (eqb t 1 && d) → r ≡ givenBy c 1 i →
-        Ruled ls k i (e ∷ f ∷ g ∷ []) r
-    dynamic-three-ruled o z d j s =
-        let (a, b, c) = three-types w x l in
-        record { reply = λ words s′ Γ nd ts lent h st. rw (s, j, d, p, q, y) (dynamic-three-type lent Γ i h nd o z a b c st) }
+module _ {ls stack : List ℕ} {d i k x p e f g n m : ℕ} (c : n ≡ lowest f g) (a : m ≡ lowest e n) where
+  pub fault-ruled : m < typeBase → Ruled ls stack d i k x p e f g m
+  fault-ruled l =
+      record { reply = λ words s Γ nd ts lent h b few vis. rw (a, c) (fault-first s Γ i nd e f g ts (rw (a, c) at l) k (vis .fields)) }
 
--- ---- a binder over its body
+  module _ {t u v j r : ℕ} (jk : j ≡ k) (l : typeBase ≤ m) (te : t ≡ typeIn e) (uf : u ≡ typeIn f) (vg : v ≡ typeIn g) where
+    pub lift-ruled : j ≡ 2 → r ≡ givenBy (eqb t 0) 1 i → Ruled ls stack d i k x p e f g r
+    unfolding rows build check rule typeCount
+    lift-ruled q y =
+        let (le, lf, lg) = three-types c a l in
+        rw (← jk, q, y, te)
+        (record {
+          reply = λ words s Γ nd ts lent h b few vis.
+              let (z, kn) = one-typed (vis .fields) le in
+              rw (z, lift-numbers s (ok lent i h) (typeIn e) kn) (given-stands s (ok lent i h) _ 1 i (small lent i h) (λ _. omega arith));
+        })
 
-pub body-fault : {ls : List ℕ} {k p i e : ℕ} → e < typeBase → BinderRuled ls k p i e e
-unfolding check
-body-fault {i} l =
-    record {
-      of-static = λ words s Γ y t a lent h b st. told-rule s i _ (told st) l;
-      of-dynamic = λ words s Γ y t a lent h b st. told-rule s i _ (rw (b, type-one s) at (told st)) l;
-    }
+    pub function-ruled : j ≡ 3 → (maxTypes ≤ length ls → Listing ls (pairWord p v) i r) → Ruled ls stack d i k x p e f g r
+    unfolding rows build check rule
+    function-ruled q y =
+        let (le, lf, lg) = three-types c a l in
+        rw (← jk, q)
+        (record {
+          reply = λ words s Γ nd ts lent h b few vis.
+              let (z, kn) = last-typed (vis .fields) lg in
+              rw (z, ← vis .parameter) (function-stands lent i h {t = p} {u = typeIn g} (rw vg at (y (lent .types .room))) (vis .listed) kn);
+        })
 
-pub function-type-ruled :
-    {ls : List ℕ} {k p i e u r : ℕ} → k ≡ 3 → typeBase ≤ e → u ≡ typeIn e → (maxTypes ≤ length ls → Listing ls (pairWord p u) i r) →
-    BinderRuled ls k p i e r
-unfolding check rule
-function-type-ruled {p} {i} {e} a l x g =
-    record {
-      of-static = λ words s Γ y t _ lent h b st.
-          rw (typed-answer st l) (function-stands lent i h {t = p} {u = typeIn e} (rw x at (g (lent .types .room))) b (st .known l));
-      of-dynamic = λ words s Γ y t c lent h b st. let z : ⊥ = omega arith in absurd z;
-    }
+    pub apply-ruled : j ≡ 4 → r ≡ applyAnswer ls i t u → Ruled ls stack d i k x p e f g r
+    unfolding rows build check both rule
+    apply-ruled q y =
+        let (le, lf, lg) = three-types c a l in
+        rw (← jk, q, y, te, uf)
+        (record {
+          reply = λ words s Γ nd ts lent h b few vis.
+              let ((z, kn), (o, km)) = two-typed (vis .fields) le lf in
+              rw (z, o) (apply-stands lent i h (typeIn e) (typeIn f) kn km);
+        })
 
-pub dynamic-function-ruled :
-    {ls : List ℕ} {k p i e u r : ℕ} → (k ≡ 3 → ⊥) → typeBase ≤ e → u ≡ typeIn e → r ≡ givenBy (eqb u 1) 1 i → BinderRuled ls k p i e r
-unfolding check rule typeCount
-dynamic-function-ruled {i} {e} a l x g =
-    record {
-      of-static = λ words s Γ y t c lent h b st. absurd (a c);
-      of-dynamic = λ words s Γ y t c lent h b st.
-          rw (← type-one s, ← b, typed-answer st l, dynamic-function s (ok lent i h) (typeIn e) (st .known l), g, x)
-          (given-stands s (ok lent i h) _ 1 i (small lent i h) (λ _. omega arith));
-    }
+    pub fix-ruled : j ≡ 5 → r ≡ fixAnswer ls i t → Ruled ls stack d i k x p e f g r
+    unfolding rows build check rule
+    fix-ruled q y =
+        let (le, lf, lg) = three-types c a l in
+        rw (← jk, q, y, te)
+        (record { reply = λ words s Γ nd ts lent h b few vis. let (z, kn) = one-typed (vis .fields) le in rw z (fix-stands lent i h (typeIn e) kn) })
+
+    pub if-ruled : {o : Bool} → j ≡ 6 → o ≡ (eqb t 0 && eqb u v) → r ≡ givenBy o u i → Ruled ls stack d i k x p e f g r
+    unfolding rows build check both rule
+    if-ruled q o y =
+        let (le, lf, lg) = three-types c a l in
+        rw (← jk, q, y, o, te, uf, vg)
+        (record {
+          reply = λ words s Γ nd ts lent h b few vis.
+              let ((z, kz), (w, kw), (y, ky)) = three-typed (vis .fields) le lf lg in
+              rw (z, w, y, if-numbers s (ok lent i h) (typeIn e) (typeIn f) (typeIn g) kz kw ky)
+              (given-stands s (ok lent i h) _ (typeIn f) i (small lent i h) (λ _. kw));
+        })
+
+    pub operation-ruled : {o : Bool} → j ≡ 7 → o ≡ (eqb t 0 && eqb u 0) → r ≡ givenBy o 0 i → Ruled ls stack d i k x p e f g r
+    unfolding rows build check both rule typeCount
+    operation-ruled q o y =
+        let (le, lf, lg) = three-types c a l in
+        rw (← jk, q, y, o, te, uf)
+        (record {
+          reply = λ words s Γ nd ts lent h b few vis.
+              let ((z, kz), (w, kw)) = two-typed (vis .fields) le lf in
+              rw (z, w, op-numbers s (ok lent i h) (typeIn e) (typeIn f) kz kw)
+              (given-stands s (ok lent i h) _ 0 i (small lent i h) (λ _. omega arith));
+        })
+
+    pub late-ruled :
+        {o : Bool} → NotBelow 8 j → o ≡ (eqb t 1 && (eqb u 1 && eqb v 1)) → r ≡ givenBy o 1 i → Ruled ls stack d i k x p e f g r
+    late-ruled q o y =
+        let (le, lf, lg) = three-types c a l in
+        rw (y, o, te, uf, vg)
+        (record { reply = λ words s Γ nd ts lent h b few vis. late-row lent Γ h nd (late-kind k (rw jk at q) (vis .known)) (vis .fields) le lf lg })

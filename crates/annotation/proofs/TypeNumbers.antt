@@ -2,8 +2,7 @@
 -- which function types are listed, and what the rules on types say of numbers. Assumes nothing.
 use Prim.Native.Nat.{ℕ, zero, suc, _+_, _-_, _≤_, _<_}
 use mathlib.Core.Path.{_≡_, refl, sym, _∙_}
-use mathlib.Core.Bool.{Bool, true, false, _&&_, and-true, false≢true}
-use mathlib.Core.List.{[], _∷_}
+use mathlib.Core.Bool.{Bool, true, false, _&&_, false≢true}
 use mathlib.Core.Logic.{⊎-elim, _⊎_, inl, inr}
 use mathlib.Core.Option.{Option, none, some}
 use native.Mathlib.Omega.{arith}
@@ -14,7 +13,7 @@ use borrow.Author.Tests.{ltb-true, eq-eqb, ne-eqb, eqb-true, le-leb, lt-leb, leb
 use Rattle.lambdamix.specs.Script.{Script, FunctionType}
 use Rattle.lambdamix.specs.Falling.{falling, fallingBy}
 use Rattle.lambdamix.specs.Types.{Ty, S, D, _⇒_, sameType, blankType, typeBy, typeStep, typeOf, typeCount, someType, listed}
-use Rattle.lambdamix.specs.Checker.{provided, liftRule, applyRule, fixRule, ifRule, opRule, abstrDynRule, allDynamic, dynRule}
+use Rattle.lambdamix.specs.Checker.{provided, liftRule, applyRule, fixRule, ifRule, opRule, abstrDynRule}
 use Rattle.lambdamix.proofs.Checking.{sameType-refl}
 use Rattle.lambdamix.proofs.Falling.{falling-step, below-at}
 use Rattle.lambdamix.proofs.Tests.{and-both, and-intro, or-cases, or-left, or-right, holds-or-fails}
@@ -220,7 +219,7 @@ module _ (s : Script) (ok : Sound s) where
   unfolding typeCount
   same-static t h = rw (← type-zero s) (same-number t 0 h (omega arith))
 
-  same-dynamic : (t : ℕ) → t < typeCount s → sameType (typeOf s t) D ≡ eqb t 1
+  pub same-dynamic : (t : ℕ) → t < typeCount s → sameType (typeOf s t) D ≡ eqb t 1
   unfolding typeCount
   same-dynamic t h = rw (← type-one s) (same-number t 1 h (omega arith))
 
@@ -241,23 +240,7 @@ module _ (s : Script) (ok : Sound s) where
   unfolding opRule
   op-numbers t u h k = rw (same-static t h, same-static u k, type-zero s)
 
-  -- the dynamic kinds' rules on numbers
-  pub dynamic-one : (t : ℕ) → t < typeCount s → dynRule 1 (typeOf s t ∷ []) ≡ provided (eqb t 1) (typeOf s 1)
-  unfolding dynRule allDynamic
-  dynamic-one t h = rw (same-dynamic t h, and-true (eqb t 1), type-one s)
-
-  pub dynamic-two :
-      (t u : ℕ) → t < typeCount s → u < typeCount s →
-      dynRule 2 (typeOf s t ∷ typeOf s u ∷ []) ≡ provided (eqb t 1 && eqb u 1) (typeOf s 1)
-  unfolding dynRule allDynamic
-  dynamic-two t u h k = rw (same-dynamic t h, same-dynamic u k, and-true (eqb u 1), type-one s)
-
-  pub dynamic-three :
-      (t u v : ℕ) → t < typeCount s → u < typeCount s → v < typeCount s →
-      dynRule 3 (typeOf s t ∷ typeOf s u ∷ typeOf s v ∷ []) ≡ provided (eqb t 1 && (eqb u 1 && eqb v 1)) (typeOf s 1)
-  unfolding dynRule allDynamic
-  dynamic-three t u v h k l = rw (same-dynamic t h, same-dynamic u k, same-dynamic v l, and-true (eqb v 1), type-one s)
-
+  -- (Abstr) of a dynamic function on numbers
   pub dynamic-function : (t : ℕ) → t < typeCount s → abstrDynRule (typeOf s t) ≡ provided (eqb t 1) (typeOf s 1)
   unfolding abstrDynRule
   dynamic-function t h = rw (same-dynamic t h, type-one s)

@@ -1,25 +1,30 @@
 -- What the walk of the tree promises: with the nodes and the listed types in words, and the binders around a node on a stack, the
 -- inputs below them, a node's answer stands for what `check` gives. Assumes nothing.
 use Prim.Native.Nat.{ℕ, zero, suc, _+_, _-_, _≤_, _<_}
+use mathlib.Core.Bool.{Bool, true, false}
 use mathlib.Core.List.{List, [], _∷_}
 use mathlib.Core.Option.{none}
 use mathlib.Core.Path.{_≡_}
 use lib.IntN.{ℤ}
 use lib.ListN.{length, getD}
 use lib.Dec.{eqb}
+use Rattle.lambdamix.specs.declared.Use.{Use}
+use Rattle.lambdamix.specs.declared.Use.the-variants.{Nothing, Name, Binder, Child, ParameterType, Operation}
 use Rattle.lambdamix.specs.Limits.{maxTypes, maxInputs, maxHeight}
 use Rattle.lambdamix.specs.Script.{Script, Node, rows, blankRow, nodeAt, nodeCount}
-use Rattle.lambdamix.specs.Term.{Term, Terms, nilT, consT, lam, dlam, build, tree, height}
+use Rattle.lambdamix.specs.Term.{Term, Terms, nilT, consT, build, tree, height}
 use Rattle.lambdamix.specs.Types.{blankType, typeOf, typeCount}
 use Rattle.lambdamix.specs.Typing.{Context, empty, bind}
 use Rattle.lambdamix.specs.Checker.{check, annotationRefusal}
 use Rattle.script.specs.declared.Counts.{Counts}
+use Rattle.script.specs.declared.Row.{Row}
 use Rattle.script.specs.declared.Verdict.{Verdict}
 use Rattle.script.specs.Refusals.{scriptRefusal}
 use Rattle.script.specs.Tables.{rowNode, tablesOf}
 use Rattle.script.specs.Replies.{refusalOf}
+use Rattle.script.specs.KindRows.{rowAt}
 use Rattle.script.specs.Words.{wordKind, Packed}
-use Rattle.tables.specs.Walks.{Kept}
+use Rattle.tables.specs.Walks.{isBinder, isChild, Kept}
 use Rattle.annotation.specs.Answers.{scriptOf, Passes, pick, highHalf, lowHalf, typeAnswer, faultAnswer, Stands}
 
 -- two numbers of 16 bits in a word of 32
@@ -76,6 +81,20 @@ pub record Pushed (w d e : ℕ) (before after : List ℕ) : Type 0 where
   pub least : d ≤ e
   pub top : d < length before → (e ≡ d + 1) × (getD after d 0 ≡ w)
 
+-- after a field that may be a binder, of the name y and the type t
+pub data Entered (t y d : ℕ) (before : List ℕ) : Bool → ℕ → List ℕ → Type 0 where
+  entered : {w e : ℕ} {after : List ℕ} → Pair w t y → Pushed w d e before after → Entered t y d before true e after
+  passed-over : Entered t y d before false d before
+
+-- the type of a binder's parameter, by the use of the field that may name it: that one, or D
+abbrev pub parameterBy : Use → ℕ → ℕ
+parameterBy Nothing t = 1
+parameterBy Name t = 1
+parameterBy Binder t = 1
+parameterBy Child t = 1
+parameterBy ParameterType t = t
+parameterBy Operation t = 1
+
 -- What the walk promises of node i under d binders, on a stack with room for as many more as the tree of i is high: its answer
 -- stands for what `check` gives, and the binders stay.
 pub record Answers (words types before after : List ℕ) (d i r : ℕ) : Type 0 where
@@ -89,51 +108,51 @@ pub record ChildAnswers (words types before after : List ℕ) (d i m r : ℕ) : 
   pub kept : Kept d before after
   pub reply : m < i → Answers words types before after d m r
 
--- the kinds of one, two and three children that bind nothing, and those that bind
-pub data OneChild : ℕ → Type 0 where
-  lifts : OneChild 2
-  fixes : OneChild 5
-  fixes-dynamic : OneChild 10
+-- the same of a field m of node i that may be a child; any other is D, which is no fault
+pub data FieldAnswers (words types : List ℕ) (d i m : ℕ) (before : List ℕ) : Bool → List ℕ → ℕ → Type 0 where
+  typed-child :
+      {after : List ℕ} {r : ℕ} → ChildAnswers words types before after d i m r → FieldAnswers words types d i m before true after r
+  not-visited : FieldAnswers words types d i m before false before (typeAnswer 1)
 
-pub data TwoChildren : ℕ → Type 0 where
-  applies : TwoChildren 4
-  operates : TwoChildren 7
-  applies-dynamic : TwoChildren 9
-  operates-dynamic : TwoChildren 12
-
-pub data ThreeChildren : ℕ → Type 0 where
-  chooses : ThreeChildren 6
-  chooses-dynamic : ThreeChildren 11
-
-pub data BindsName : ℕ → Type 0 where
-  abstracts : BindsName 3
-  abstracts-dynamic : BindsName 8
-
--- the word of node i, whose kind is one of those
-pub record WordOf (words : List ℕ) (i w : ℕ) (Kinds : ℕ → Type 0) : Type 0 where
+-- the word of node i, and the table's row of its kind
+pub record RowOf (words : List ℕ) (i w : ℕ) (r : Row) : Type 0 where
   pub word : w ≡ getD words i 0
-  pub kind : Kinds (wordKind w)
+  pub row : r ≡ rowAt (wordKind w)
 
--- the answers es stand for what `check` gives of the terms ts
-pub data Stand (s : Script) (Γ : Context) : List ℕ → Terms → Type 0 where
-  none-left : Stand s Γ [] nilT
-  and-then :
-      {e : ℕ} {es : List ℕ} {t : Term} {ts : Terms} → Stands s e (check s Γ t) → Stand s Γ es ts → Stand s Γ (e ∷ es) (consT t ts)
+-- the answers es at fields, of which some are children: those stand for what `check` gives of the terms ts
+pub data Stand (s : Script) (Γ : Context) : List Bool → List ℕ → Terms → Type 0 where
+  none-left : Stand s Γ [] [] nilT
+  child-then :
+      {bs : List Bool} {e : ℕ} {es : List ℕ} {t : Term} {ts : Terms} → Stands s e (check s Γ t) → Stand s Γ bs es ts →
+      Stand s Γ (true ∷ bs) (e ∷ es) (consT t ts)
+  other-then : {bs : List Bool} {es : List ℕ} {ts : Terms} → Stand s Γ bs es ts → Stand s Γ (false ∷ bs) (typeAnswer 1 ∷ es) ts
 
--- what a rule promises of node i of the kind k, whose children have the answers es
-pub record Ruled (types : List ℕ) (k i : ℕ) (es : List ℕ) (r : ℕ) : Type 0 where
+-- which fields of a row are children
+abbrev pub places : List Use → List Bool
+places us = isChild (getD us 0 Nothing) ∷ isChild (getD us 1 Nothing) ∷ isChild (getD us 2 Nothing) ∷ []
+
+-- the type of the parameter of a node, if it is a binder, and the context of its fields
+abbrev pub parameterType : List Use → Node → ℕ
+parameterType us nd = parameterBy (getD us 1 Nothing) (nd .b)
+
+abbrev pub inside : Script → Context → List Use → Node → Context
+inside s Γ us nd = pick (isBinder (getD us 0 Nothing)) (bind (nd .a) (typeOf s (parameterType us nd)) Γ) Γ
+
+-- What is known of a node of the kind k when its rule is asked: the name x in its word, the type p that a binder's parameter would
+-- have, and the answers e, f and g at its fields, of which the terms ts are the children.
+pub record Visited (s : Script) (Γ : Context) (k x p : ℕ) (nd : Node) (e f g : ℕ) (ts : Terms) : Type 0 where
+  pub known : k < 13
+  pub name : x ≡ nd .a
+  pub parameter : p ≡ parameterType (getD rows k blankRow .uses) nd
+  pub listed : p < typeCount s
+  pub fields :
+      Stand s (inside s Γ (getD rows k blankRow .uses) nd) (places (getD rows k blankRow .uses)) (e ∷ f ∷ g ∷ []) ts
+
+-- what the rule of node i promises, which has d binders around it
+pub record Ruled (types stack : List ℕ) (d i k x p e f g r : ℕ) : Type 0 where
   pub reply :
-      (words : List ℕ) (s : Script) (Γ : Context) (nd : Node) (ts : Terms) → Lent s words types → i < nodeCount s → Stand s Γ es ts →
-      Stands s r (check s Γ (build (getD rows k blankRow .step) i nd ts))
-
--- the same of a binder whose parameter has the type p, and whose body has the answer e
-pub record BinderRuled (types : List ℕ) (k p i e r : ℕ) : Type 0 where
-  pub of-static :
-      (words : List ℕ) (s : Script) (Γ : Context) (y : ℕ) (t : Term) → k ≡ 3 → Lent s words types → i < nodeCount s → p < typeCount s →
-      Stands s e (check s (bind y (typeOf s p) Γ) t) → Stands s r (check s Γ (lam i y p t))
-  pub of-dynamic :
-      (words : List ℕ) (s : Script) (Γ : Context) (y : ℕ) (t : Term) → k ≡ 8 → Lent s words types → i < nodeCount s → p ≡ 1 →
-      Stands s e (check s (bind y (typeOf s p) Γ) t) → Stands s r (check s Γ (dlam i y t))
+      (words : List ℕ) (s : Script) (Γ : Context) (nd : Node) (ts : Terms) → Lent s words types → i < nodeCount s → Binds s stack d Γ →
+      d ≤ length stack → Visited s Γ k x p nd e f g ts → Stands s r (check s Γ (build (getD rows k blankRow .step) i nd ts))
 
 -- Refusals 9 to 11 of all tables with these type and input columns of which none of 1 to 8 holds and whose nodes the words hold.
 pub record Annotated (n : Counts) (ps rs is words : List ℕ) (r : Verdict) : Type 0 where

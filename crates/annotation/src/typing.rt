@@ -1,33 +1,38 @@
-// The types of a script's nodes, found by recursion on falling node numbers: refusals 9, 10 and 11. The recursion passes on plain
-// numbers, references to arrays and a reference to a slice reference, and its answer is one number: anything else, a tuple struct
-// or a slice reference itself too, would go through memory.
+// The types of a script's nodes, found by recursion on falling node numbers, field by field as the table of tables says: refusals 9, 10
+// and 11. An answer is one number, and the nodes are lent by a reference to a slice reference: a struct that is returned and a slice
+// reference itself would go through memory.
+use lambdamix::Use;
 use script::Counts;
 use script::Name;
 use script::NodeNumber;
 use script::Refusal;
+use script::Row;
 use script::TypeNumber;
 use script::Verdict;
-use script::column::at16;
+use script::column::type_at;
+use script::kinds::row_of;
 use script::limits::MAX_HEIGHT;
 use script::limits::MAX_INPUTS;
 use script::limits::MAX_TYPES;
 use script::place::root;
-use script::word::field_a;
-use script::word::field_b;
-use script::word::field_c;
+use script::word::child_a;
+use script::word::child_b;
+use script::word::child_c;
 use script::word::kind;
-use script::word::word_at;
+use script::word::name_a;
+use script::word::node_word;
+use script::word::type_b;
 ghost use Prim.Native.Nat.{_-_, _≤_};
 ghost use mathlib.Core.Path.{_≡_};
 ghost use mathlib.Core.Bool.{_&&_};
-ghost use mathlib.Core.List.{[], _∷_};
 ghost use lib.ListN.{getD, length, replicate, set};
 ghost use lib.Dec.{eqb};
 ghost use Rattle.lambdamix.specs.Limits.{maxTypes};
 ghost use Rattle.script.specs.Replies.{refusalOf};
-ghost use Rattle.script.specs.Words.{wordKind, wordB};
-ghost use Rattle.annotation.specs.Answers.{applyAnswer, faultAnswer, fixAnswer, givenBy, highHalf, lowHalf, lowest, pairWord, pick, rootAnswer, typeAnswer, typeIn};
-ghost use Rattle.annotation.specs.Walks.{Annotated, Answers, BinderRuled, BindsName, Bottom, ChildAnswers, Lists, Listing, OneChild, Pair, Pushed, Ruled, ThreeChildren, TwoChildren, WordOf, bound, unlisted};
+ghost use Rattle.script.specs.Words.{wordKind, wordA};
+ghost use Rattle.tables.specs.Walks.{isBinder, isChild};
+ghost use Rattle.annotation.specs.Answers.{applyAnswer, faultAnswer, fixAnswer, givenBy, highHalf, lowHalf, lowest, pairWord, rootAnswer, typeAnswer, typeIn};
+ghost use Rattle.annotation.specs.Walks.{Annotated, Answers, Bottom, ChildAnswers, Entered, FieldAnswers, Lists, Listing, Pair, Pushed, RowOf, Ruled, bound, parameterBy, unlisted};
 
 // Places of the stack: the inputs, and as many binders as a tree is high.
 const STACK_PLACES: usize = MAX_INPUTS + MAX_HEIGHT;
@@ -42,33 +47,52 @@ const FAULT_LIMIT: u32 = 16;
 const TYPE_BASE: u32 = FAULT_LIMIT * LIMIT_16;
 
 // The numbers of the types S and D, and of the first listed one.
-const STATIC: u16 = 0;
+const STATIC: TypeNumber = TypeNumber(0);
 
-const DYNAMIC: u16 = 1;
+const DYNAMIC: TypeNumber = TypeNumber(1);
 
-const FIRST_LISTED: u16 = 2;
+const FIRST_LISTED: TypeNumber = TypeNumber(2);
 
 // What a place past the listed types holds: no pair of types.
 const UNLISTED: u32 = 4294967295;
 
-// A listed type, its parameter over its result, or a binder, its type over its name.
-fn pair(a: u16, b: u16) -> u32
-    ensures { λ r. ⌜ Pair r a b ⌝ }
-    ensures word { λ r. ⌜ r ≡ pairWord a b ⌝ }
+// A listed type: its parameter over its result.
+fn function_word(t: TypeNumber, u: TypeNumber) -> u32
+    ensures { λ r. ⌜ Pair r (t .0) (u .0) ⌝ }
+    ensures word { λ r. ⌜ r ≡ pairWord (t .0) (u .0) ⌝ }
 {
-    LIMIT_16 * (a as u32) + (b as u32)
+    LIMIT_16 * (t.0 as u32) + (u.0 as u32)
 }
 
-fn high(w: u32) -> u16
-    ensures { λ r. ⌜ r ≡ highHalf w ⌝ }
+fn parameter_of(w: u32) -> TypeNumber
+    ensures { λ r. ⌜ r .0 ≡ highHalf w ⌝ }
 {
-    (w / LIMIT_16) as u16
+    TypeNumber((w / LIMIT_16) as u16)
 }
 
-fn low(w: u32) -> u16
-    ensures { λ r. ⌜ r ≡ lowHalf w ⌝ }
+fn result_of(w: u32) -> TypeNumber
+    ensures { λ r. ⌜ r .0 ≡ lowHalf w ⌝ }
 {
-    (w % LIMIT_16) as u16
+    TypeNumber((w % LIMIT_16) as u16)
+}
+
+// A binder: its type over its name.
+fn binder_word(t: TypeNumber, x: Name) -> u32
+    ensures { λ r. ⌜ Pair r (t .0) (x .0) ⌝ }
+{
+    LIMIT_16 * (t.0 as u32) + (x.0 as u32)
+}
+
+fn binder_type(w: u32) -> TypeNumber
+    ensures { λ r. ⌜ r .0 ≡ highHalf w ⌝ }
+{
+    TypeNumber((w / LIMIT_16) as u16)
+}
+
+fn binder_name(w: u32) -> Name
+    ensures { λ r. ⌜ r .0 ≡ lowHalf w ⌝ }
+{
+    Name((w % LIMIT_16) as u16)
 }
 
 fn typed(t: TypeNumber) -> u32
@@ -87,7 +111,7 @@ fn fault(number: u8, i: NodeNumber) -> u32
 fn type_in(e: u32) -> TypeNumber
     ensures { λ r. ⌜ r .0 ≡ typeIn e ⌝ }
 {
-    TypeNumber(low(e))
+    TypeNumber((e % LIMIT_16) as u16)
 }
 
 // The fault at the lower node; where only one answer is a fault, that one.
@@ -119,7 +143,7 @@ fn listed(types: &[u32], f: TypeNumber) -> u32
     requires { ⌜ 2 ≤ f .0 ⌝ }
     ensures { λ r. ⌜ r ≡ getD (now (types .entry)) (f .0 - 2) 0 ⌝ }
 {
-    let at = (f.0 - FIRST_LISTED) as usize;
+    let at = (f.0 - FIRST_LISTED.0) as usize;
     if at < types.len() {
         return types[at];
     }
@@ -130,23 +154,25 @@ fn listed(types: &[u32], f: TypeNumber) -> u32
 fn application(types: &[u32], i: NodeNumber, f: TypeNumber, t: TypeNumber) -> u32
     ensures { λ r. ⌜ r ≡ applyAnswer (now (types .entry)) (i .0) (f .0) (t .0) ⌝ }
 {
-    if f.0 < FIRST_LISTED {
+    if f.0 < FIRST_LISTED.0 {
         return fault(9, i);
     }
     let w = listed(types, f);
-    given(high(w) == t.0, TypeNumber(low(w)), i)
+    let p = parameter_of(w);
+    given(p.0 == t.0, result_of(w), i)
 }
 
 // Fix: a function from a function type to that same type gives it.
 fn fix(types: &[u32], i: NodeNumber, f: TypeNumber) -> u32
     ensures { λ r. ⌜ r ≡ fixAnswer (now (types .entry)) (i .0) (f .0) ⌝ }
 {
-    if f.0 < FIRST_LISTED {
+    if f.0 < FIRST_LISTED.0 {
         return fault(9, i);
     }
     let w = listed(types, f);
-    let t = high(w);
-    given(both(FIRST_LISTED <= t, t == low(w)), TypeNumber(t), i)
+    let t = parameter_of(w);
+    let u = result_of(w);
+    given(both(FIRST_LISTED.0 <= t.0, t.0 == u.0), t, i)
 }
 
 // Function: the type from t to u, which must be listed.
@@ -156,11 +182,11 @@ fn function(types: &[u32], i: NodeNumber, t: TypeNumber, u: TypeNumber) -> u32
     if types.len() < MAX_TYPES {
         return fault(10, i);
     }
-    let w = pair(t.0, u.0);
+    let w = function_word(t, u);
     let mut j: usize = 0;
     while j < MAX_TYPES {
         if types[j] == w {
-            return typed(TypeNumber(FIRST_LISTED + (j as u16)));
+            return typed(TypeNumber(FIRST_LISTED.0 + (j as u16)));
         }
         j += 1;
     }
@@ -178,49 +204,34 @@ fn variable(stack: &[u32], depth: usize, i: NodeNumber, x: Name) -> u32
     while 0 < d {
         d -= 1;
         let w = stack[d];
-        if low(w) == x.0 {
-            return typed(TypeNumber(high(w)));
+        let y = binder_name(w);
+        if y.0 == x.0 {
+            return typed(binder_type(w));
         }
     }
     fault(9, i)
 }
 
-// A node with one child: a fault goes first, else the rule of the node's kind.
-fn one_rule(types: &[u32], k: u16, i: NodeNumber, e: u32) -> u32
-    requires { ⌜ OneChild k ⌝ }
-    ensures { λ r. ⌜ Ruled (now (types .entry)) k (i .0) (e ∷ []) r ⌝ }
+// Late kinds: all children D.
+fn all_dynamic(t: TypeNumber, u: TypeNumber, v: TypeNumber) -> bool
+    ensures { λ r. ⌜ r ≡ (eqb (t .0) 1 && (eqb (u .0) 1 && eqb (v .0) 1)) ⌝ }
 {
-    if e < TYPE_BASE {
-        return e;
-    }
-    let t = type_in(e);
-    match k {
-        2 => given(t.0 == STATIC, TypeNumber(DYNAMIC), i),
-        5 => fix(types, i, t),
-        _ => given(t.0 == DYNAMIC, TypeNumber(DYNAMIC), i),
-    }
+    both(t.0 == DYNAMIC.0, both(u.0 == DYNAMIC.0, v.0 == DYNAMIC.0))
 }
 
-fn two_rule(types: &[u32], k: u16, i: NodeNumber, e: u32, f: u32) -> u32
-    requires { ⌜ TwoChildren k ⌝ }
-    ensures { λ r. ⌜ Ruled (now (types .entry)) k (i .0) (e ∷ f ∷ []) r ⌝ }
-{
-    let least = lower(e, f);
-    if least < TYPE_BASE {
-        return least;
-    }
-    let t = type_in(e);
-    let u = type_in(f);
-    match k {
-        4 => application(types, i, t, u),
-        7 => given(both(t.0 == STATIC, u.0 == STATIC), TypeNumber(STATIC), i),
-        _ => given(both(t.0 == DYNAMIC, u.0 == DYNAMIC), TypeNumber(DYNAMIC), i),
-    }
-}
-
-fn three_rule(types: &[u32], k: u16, i: NodeNumber, e: u32, f: u32, g: u32) -> u32
-    requires { ⌜ ThreeChildren k ⌝ }
-    ensures { λ r. ⌜ Ruled (now (types .entry)) k (i .0) (e ∷ f ∷ g ∷ []) r ⌝ }
+// The rule of a node's kind on the answers at its fields, of which those that are no children are D; the lowest fault goes first.
+fn rule(
+    types: &[u32],
+    stack: &[u32],
+    depth: usize,
+    i: NodeNumber,
+    w: u64,
+    p: TypeNumber,
+    e: u32,
+    f: u32,
+    g: u32,
+) -> u32
+    ensures { λ r. ⌜ Ruled (now (types .entry)) (now (stack .entry)) depth (i .0) (wordKind w) (wordA w) (p .0) e f g r ⌝ }
 {
     let least = lower(e, lower(f, g));
     if least < TYPE_BASE {
@@ -229,37 +240,16 @@ fn three_rule(types: &[u32], k: u16, i: NodeNumber, e: u32, f: u32, g: u32) -> u
     let t = type_in(e);
     let u = type_in(f);
     let v = type_in(g);
-    if k == 6 {
-        return given(both(t.0 == STATIC, u.0 == v.0), u, i);
-    }
-    given(
-        both(t.0 == DYNAMIC, both(u.0 == DYNAMIC, v.0 == DYNAMIC)),
-        TypeNumber(DYNAMIC),
-        i,
-    )
-}
-
-// A binder, whose parameter has the type p.
-fn binder_rule(types: &[u32], k: u16, p: TypeNumber, i: NodeNumber, e: u32) -> u32
-    ensures { λ r. ⌜ BinderRuled (now (types .entry)) k (p .0) (i .0) e r ⌝ }
-{
-    if e < TYPE_BASE {
-        return e;
-    }
-    let u = type_in(e);
-    if k == 3 {
-        return function(types, i, p, u);
-    }
-    given(u.0 == DYNAMIC, TypeNumber(DYNAMIC), i)
-}
-
-// The type of a binder's parameter: the one that a function names, or D.
-fn parameter(w: u64) -> TypeNumber
-    ensures { λ r. ⌜ r .0 ≡ pick (eqb (wordKind w) 3) (wordB w) 1 ⌝ }
-{
     match kind(w) {
-        3 => TypeNumber(field_b(w)),
-        _ => TypeNumber(DYNAMIC),
+        0 => typed(STATIC),
+        1 => variable(stack, depth, i, name_a(w)),
+        2 => given(t.0 == STATIC.0, DYNAMIC, i),
+        3 => function(types, i, p, v),
+        4 => application(types, i, t, u),
+        5 => fix(types, i, t),
+        6 => given(both(t.0 == STATIC.0, u.0 == v.0), u, i),
+        7 => given(both(t.0 == STATIC.0, u.0 == STATIC.0), STATIC, i),
+        _ => given(all_dynamic(t, u, v), DYNAMIC, i),
     }
 }
 
@@ -274,6 +264,56 @@ fn push(stack: &mut [u32], depth: usize, w: u32) -> usize
     depth
 }
 
+fn is_binder(u: Use) -> bool
+    ensures { λ r. ⌜ r ≡ isBinder u ⌝ }
+{
+    match u {
+        Use::Binder => true,
+        Use::Nothing => false,
+        Use::Name => false,
+        Use::Child => false,
+        Use::ParameterType => false,
+        Use::Operation => false,
+    }
+}
+
+fn is_child(u: Use) -> bool
+    ensures { λ r. ⌜ r ≡ isChild u ⌝ }
+{
+    match u {
+        Use::Child => true,
+        Use::Nothing => false,
+        Use::Name => false,
+        Use::Binder => false,
+        Use::ParameterType => false,
+        Use::Operation => false,
+    }
+}
+
+// The type of a binder's parameter, by the use of the field that may name it: that one, or D.
+fn parameter(u: Use, t: TypeNumber) -> TypeNumber
+    ensures { λ r. ⌜ r .0 ≡ parameterBy u (t .0) ⌝ }
+{
+    match u {
+        Use::ParameterType => t,
+        Use::Nothing => DYNAMIC,
+        Use::Name => DYNAMIC,
+        Use::Binder => DYNAMIC,
+        Use::Child => DYNAMIC,
+        Use::Operation => DYNAMIC,
+    }
+}
+
+// A field that is a binder goes on the stack, with its parameter's type; how deep the stack is then.
+fn enter(stack: &mut [u32], depth: usize, u: Use, t: TypeNumber, x: Name) -> usize
+    ensures { λ r. ⌜ Entered (t .0) (x .0) depth (now (stack .entry)) (isBinder u) r (now (stack .exit)) ⌝ }
+{
+    if is_binder(u) {
+        return push(stack, depth, binder_word(t, x));
+    }
+    depth
+}
+
 // A write past the end changes nothing.
 fn put(s: &mut [u32], i: usize, w: u32)
     ensures { λ r. ⌜ now (s .exit) ≡ set (now (s .entry)) i w ⌝ }
@@ -283,25 +323,75 @@ fn put(s: &mut [u32], i: usize, w: u32)
     }
 }
 
-// The type of node i, under the first binders of the stack.
+// The type of node i, under the first binders of the stack, by the table's row of its own kind.
 fn node(
     nodes: &&[u64],
     types: &[u32; MAX_TYPES],
     stack: &mut [u32; STACK_PLACES],
     depth: usize,
-    i: u16,
+    i: NodeNumber,
 ) -> u32
-    ensures { λ r. ⌜ Answers (now (now (nodes .entry))) (now (types .entry)) (now (stack .entry)) (now (stack .exit)) depth i r ⌝ }
+    ensures { λ r. ⌜ Answers (now (now (nodes .entry))) (now (types .entry)) (now (stack .entry)) (now (stack .exit)) depth (i .0) r ⌝ }
 {
-    let w = word_at(*nodes, i);
+    let w = node_word(*nodes, i);
     match kind(w) {
-        1 => variable(stack, depth, NodeNumber(i), Name(field_a(w))),
-        2 | 5 | 10 => one(nodes, types, stack, depth, i, w),
-        3 | 8 => binder(nodes, types, stack, depth, i, w),
-        4 | 7 | 9 | 12 => two(nodes, types, stack, depth, i, w),
-        6 | 11 => three(nodes, types, stack, depth, i, w),
-        _ => typed(TypeNumber(STATIC)),
+        0 => fields(nodes, types, stack, depth, i, w, row_of(0)),
+        1 => fields(nodes, types, stack, depth, i, w, row_of(1)),
+        2 => fields(nodes, types, stack, depth, i, w, row_of(2)),
+        3 => fields(nodes, types, stack, depth, i, w, row_of(3)),
+        4 => fields(nodes, types, stack, depth, i, w, row_of(4)),
+        5 => fields(nodes, types, stack, depth, i, w, row_of(5)),
+        6 => fields(nodes, types, stack, depth, i, w, row_of(6)),
+        7 => fields(nodes, types, stack, depth, i, w, row_of(7)),
+        8 => fields(nodes, types, stack, depth, i, w, row_of(8)),
+        9 => fields(nodes, types, stack, depth, i, w, row_of(9)),
+        10 => fields(nodes, types, stack, depth, i, w, row_of(10)),
+        11 => fields(nodes, types, stack, depth, i, w, row_of(11)),
+        12 => fields(nodes, types, stack, depth, i, w, row_of(12)),
+        _ => typed(STATIC),
     }
+}
+
+// Field by field, by its use: a binder goes on the stack, and children are typed under it; then the rule of the node's kind.
+fn fields(
+    nodes: &&[u64],
+    types: &[u32; MAX_TYPES],
+    stack: &mut [u32; STACK_PLACES],
+    depth: usize,
+    i: NodeNumber,
+    w: u64,
+    row: Row,
+) -> u32
+    requires { ⌜ RowOf (now (now nodes)) (i .0) w row ⌝ }
+    ensures { λ r. ⌜ Answers (now (now (nodes .entry))) (now (types .entry)) (now (stack .entry)) (now (stack .exit)) depth (i .0) r ⌝ }
+{
+    let a = row.0;
+    let b = row.1;
+    let c = row.2;
+    let p = parameter(b, type_b(w));
+    let inner = enter(stack, depth, a, p, name_a(w));
+    let e = field(nodes, types, stack, inner, i, a, child_a(w));
+    let f = field(nodes, types, stack, inner, i, b, child_b(w));
+    let g = field(nodes, types, stack, inner, i, c, child_c(w));
+    rule(types, stack, depth, i, w, p, e, f, g)
+}
+
+// A field that is a child has the child's type, any other is not visited: D, which is no fault.
+fn field(
+    nodes: &&[u64],
+    types: &[u32; MAX_TYPES],
+    stack: &mut [u32; STACK_PLACES],
+    depth: usize,
+    i: NodeNumber,
+    u: Use,
+    m: NodeNumber,
+) -> u32
+    ensures { λ r. ⌜ FieldAnswers (now (now (nodes .entry))) (now (types .entry)) depth (i .0) (m .0) (now (stack .entry)) (isChild u) (now (stack .exit)) r ⌝ }
+{
+    if is_child(u) {
+        return child(nodes, types, stack, depth, i, m);
+    }
+    typed(DYNAMIC)
 }
 
 // A child's number is smaller than its parent's.
@@ -310,83 +400,15 @@ fn child(
     types: &[u32; MAX_TYPES],
     stack: &mut [u32; STACK_PLACES],
     depth: usize,
-    i: u16,
-    m: u16,
+    i: NodeNumber,
+    m: NodeNumber,
 ) -> u32
-    ensures { λ r. ⌜ ChildAnswers (now (now (nodes .entry))) (now (types .entry)) (now (stack .entry)) (now (stack .exit)) depth i m r ⌝ }
+    ensures { λ r. ⌜ ChildAnswers (now (now (nodes .entry))) (now (types .entry)) (now (stack .entry)) (now (stack .exit)) depth (i .0) (m .0) r ⌝ }
 {
-    if m < i {
+    if m.0 < i.0 {
         return node(nodes, types, stack, depth, m);
     }
-    typed(TypeNumber(DYNAMIC))
-}
-
-fn one(
-    nodes: &&[u64],
-    types: &[u32; MAX_TYPES],
-    stack: &mut [u32; STACK_PLACES],
-    depth: usize,
-    i: u16,
-    w: u64,
-) -> u32
-    requires { ⌜ WordOf (now (now nodes)) i w OneChild ⌝ }
-    ensures { λ r. ⌜ Answers (now (now (nodes .entry))) (now (types .entry)) (now (stack .entry)) (now (stack .exit)) depth i r ⌝ }
-{
-    let e = child(nodes, types, stack, depth, i, field_a(w));
-    one_rule(types, kind(w), NodeNumber(i), e)
-}
-
-fn two(
-    nodes: &&[u64],
-    types: &[u32; MAX_TYPES],
-    stack: &mut [u32; STACK_PLACES],
-    depth: usize,
-    i: u16,
-    w: u64,
-) -> u32
-    requires { ⌜ WordOf (now (now nodes)) i w TwoChildren ⌝ }
-    ensures { λ r. ⌜ Answers (now (now (nodes .entry))) (now (types .entry)) (now (stack .entry)) (now (stack .exit)) depth i r ⌝ }
-{
-    let e = child(nodes, types, stack, depth, i, field_a(w));
-    let f = child(nodes, types, stack, depth, i, field_b(w));
-    two_rule(types, kind(w), NodeNumber(i), e, f)
-}
-
-fn three(
-    nodes: &&[u64],
-    types: &[u32; MAX_TYPES],
-    stack: &mut [u32; STACK_PLACES],
-    depth: usize,
-    i: u16,
-    w: u64,
-) -> u32
-    requires { ⌜ WordOf (now (now nodes)) i w ThreeChildren ⌝ }
-    ensures { λ r. ⌜ Answers (now (now (nodes .entry))) (now (types .entry)) (now (stack .entry)) (now (stack .exit)) depth i r ⌝ }
-{
-    let a = field_a(w);
-    let b = field_b(w);
-    let c = field_c(w);
-    let e = child(nodes, types, stack, depth, i, a);
-    let f = child(nodes, types, stack, depth, i, b);
-    let g = child(nodes, types, stack, depth, i, c);
-    three_rule(types, kind(w), NodeNumber(i), e, f, g)
-}
-
-fn binder(
-    nodes: &&[u64],
-    types: &[u32; MAX_TYPES],
-    stack: &mut [u32; STACK_PLACES],
-    depth: usize,
-    i: u16,
-    w: u64,
-) -> u32
-    requires { ⌜ WordOf (now (now nodes)) i w BindsName ⌝ }
-    ensures { λ r. ⌜ Answers (now (now (nodes .entry))) (now (types .entry)) (now (stack .entry)) (now (stack .exit)) depth i r ⌝ }
-{
-    let p = parameter(w);
-    let inner = push(stack, depth, pair(p.0, field_a(w)));
-    let e = child(nodes, types, stack, inner, i, field_c(w));
-    binder_rule(types, kind(w), p, NodeNumber(i), e)
+    typed(DYNAMIC)
 }
 
 // The words of the listed types, over places that hold none.
@@ -397,7 +419,7 @@ fn pack_types(parameters: &[u16], results: &[u16], count: u16, types: &mut [u32]
     let n = count as usize;
     let mut j: usize = 0;
     while j < n {
-        let w = pair(at16(parameters, j), at16(results, j));
+        let w = function_word(type_at(parameters, j), type_at(results, j));
         put(types, j, w);
         j += 1;
     }
@@ -409,7 +431,7 @@ fn bind_inputs(inputs: &[u16], count: u16, stack: &mut [u32])
 {
     let mut j: u16 = 0;
     while j < count {
-        let w = pair(at16(inputs, j as usize), j);
+        let w = binder_word(type_at(inputs, j as usize), Name(j));
         put(stack, (count - 1 - j) as usize, w);
         j += 1;
     }
@@ -426,7 +448,7 @@ fn verdict(i: NodeNumber, r: u32) -> Verdict
         });
     }
     let t = type_in(r);
-    if t.0 == DYNAMIC {
+    if t.0 == DYNAMIC.0 {
         return Verdict::Passed;
     }
     Verdict::Refused(Refusal {
@@ -451,5 +473,5 @@ pub fn annotation_refusal(
     bind_inputs(inputs, n.inputs, &mut stack);
     let i = root(n.nodes);
     let depth = n.inputs as usize;
-    verdict(i, node(&nodes, &types, &mut stack, depth, i.0))
+    verdict(i, node(&nodes, &types, &mut stack, depth, i))
 }

@@ -107,7 +107,7 @@ child-by-use ParameterType f fs = refl
 child-by-use Operation f fs = refl
 
 -- a list of uses keeps of three fields those that are children
-kept-fields :
+pub kept-fields :
     (us : List Use) (f g h : ℕ)
     → childFields us (f ∷ g ∷ h ∷ []) ≡ rowChildren (firstThree us) f g h
 unfolding childFields rowChildren keptIf

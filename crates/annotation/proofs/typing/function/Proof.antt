@@ -1,4 +1,5 @@
--- `annotation::typing::function` meets its contract: the loop goes on while no place passed has the word; the measure is what is left of the list. Assumes nothing.
+-- `annotation::typing::function` meets its contract: the loop goes on while no place passed has the word; the measure is what is left
+-- of the list. Assumes nothing.
 use borrow.Author.Needs.{needs}
 use Prim.Native.Nat.{ℕ, _-_, _≤_, _<_}
 use mathlib.Core.Path.{_≡_, sym, _∙_}
@@ -29,7 +30,9 @@ shared-slice-read-if2 c = omega arith
 
 returns-2 : tie.Need-returns-2 Inv-loop μ-loop
 unfolding maxTypes
-returns-2 c = λ few. rw (c .typed .ensures) (listed-at _ (c .before .before .before .loop-test .taken) (c .before .if2 .taken ∙ c .before .before .before .before .before .pair .ensures .1))
+returns-2 c =
+    λ few. rw (c .typed .ensures) (listed-at _ (c .before .before .before .before .loop-test .taken)
+    (c .before .before .if2 .taken ∙ c .before .before .before .before .before .before .function-word .ensures .1))
 
 loop-again : tie.Need-loop-again Inv-loop μ-loop
 unfolding maxTypes
@@ -37,8 +40,13 @@ loop-again c = (omega arith, below-more _ _ (c .before .before .before .loop .in
 
 returns-3 : tie.Need-returns-3 Inv-loop μ-loop
 unfolding maxTypes
-returns-3 c = λ few. rw (c .fault2 .ensures) (not-listed (λ k h e. c .before .before .loop .inv .1 k (omega arith) (e ∙ sym (c .before .before .before .pair .ensures .1))))
+returns-3 c =
+    λ few. rw (c .fault2 .ensures) (not-listed (λ k h e. c .before .before .loop .inv .1 k (omega arith)
+    (e ∙ sym (c .before .before .before .function-word .ensures .1))))
 
 pub function-spec : {M : Type 1} → statement M
 unfolding maxTypes
-function-spec = tie.close (tie.spec Inv-loop μ-loop (λ c κs. search needs) returns (λ c κs. search needs) loop-holds (λ c. omega arith) shared-slice-read-if2 (λ c. omega arith) (λ c. omega arith) (λ c κs. search needs) returns-2 (λ c. omega arith) (λ c. omega arith) loop-again (λ c κs. search needs) returns-3)
+function-spec =
+    tie.close (tie.spec Inv-loop μ-loop (λ c κs. search needs) returns (λ c κs. search needs) loop-holds (λ c. omega arith)
+    shared-slice-read-if2 (λ c. omega arith) (λ c. omega arith) (λ c κs. search needs) returns-2 (λ c. omega arith) (λ c. omega arith)
+    loop-again (λ c κs. search needs) returns-3)

@@ -1,4 +1,5 @@
--- `annotation::typing::variable` meets its contract: what is looked for among all binders is what is looked for among the first d; the measure is d. Assumes nothing.
+-- `annotation::typing::variable` meets its contract: what is looked for among all binders is what is looked for among the first d; the
+-- measure is d. Assumes nothing.
 use borrow.Author.Needs.{needs}
 use Prim.Native.Nat.{ℕ, suc, _-_, _<_, _≤_}
 use mathlib.Core.Path.{_≡_, refl, sym, _∙_}
@@ -39,14 +40,24 @@ loop-holds : tie.Need-loop-holds Inv-loop μ-loop
 loop-holds c = (omega arith, refl)
 
 returns-2 : tie.Need-returns-2 Inv-loop μ-loop
-returns-2 c = λ few. c .typed .ensures ∙ rw (c .before .high .ensures) (sym (c .before .before .before .before .before .before .before .loop .inv .1 ∙ found-here _ _ _ _ (c .before .before .before .before .before .before .loop-test .taken) (sym (c .before .before .before .before .low .ensures) ∙ c .before .before .if2 .taken)))
+returns-2 c =
+    λ few. c .typed .ensures ∙ rw (c .before .binder-type .ensures)
+    (sym (c .before .before .before .before .before .before .before .before .loop .inv .1
+    ∙ found-here _ _ _ _ (c .before .before .before .before .before .before .before .loop-test .taken)
+    (sym (c .before .before .before .before .before .binder-name .ensures) ∙ c .before .before .if2 .taken)))
 
 loop-again : tie.Need-loop-again Inv-loop μ-loop
-loop-again c = (omega arith, c .before .before .before .before .before .loop .inv .1 ∙ not-here _ _ _ _ (c .before .before .before .before .loop-test .taken) (λ e. c .if2 .left (c .before .before .low .ensures ∙ e)))
+loop-again c = (
+  omega arith,
+  c .before .before .before .before .before .before .loop .inv .1 ∙ not-here _ _ _ _ (c .before .before .before .before .before .loop-test .taken)
+      (λ e. c .if2 .left (c .before .before .before .binder-name .ensures ∙ e)),
+)
 
 returns-3 : tie.Need-returns-3 Inv-loop μ-loop
 unfolding bound
 returns-3 c = λ few. let e : c .before .before .loop .d ≡ 0 = omega arith in c .fault2 .ensures ∙ sym (c .before .before .loop .inv .1 ∙ rw e)
 
 pub variable-spec : {M : Type 1} → statement M
-variable-spec = tie.close (tie.spec Inv-loop μ-loop (λ c κs. search needs) returns loop-holds (λ c. omega arith) (λ c. search needs) (λ c. omega arith) (λ c κs. search needs) (λ c κs. search needs) (λ c κs. search needs) returns-2 (λ c. omega arith) loop-again (λ c κs. search needs) returns-3)
+variable-spec =
+    tie.close (tie.spec Inv-loop μ-loop (λ c κs. search needs) returns loop-holds (λ c. omega arith) (λ c. search needs) (λ c. omega arith)
+    (λ c κs. search needs) (λ c κs. search needs) (λ c κs. search needs) returns-2 (λ c. omega arith) loop-again (λ c κs. search needs) returns-3)

@@ -1,0 +1,313 @@
+-- The proof of the cycle of calls of `node`, its fields and its children. The measure is four times the node's number, and 3 at the
+-- node, 2 at its fields, 1 at a field, 0 at a child, which is more than the measure of a node with a smaller number. Assumes nothing.
+use borrow.Author.Needs.{needs}
+use Prim.Native.Nat.{ℕ, _+_, _*_, _<_}
+use borrow.Fn.Kinds.{In}
+use borrow.Fn.PlainCycle.{Measures, is, falls, and}
+use native.Mathlib.Omega.{arith}
+use Rattle.annotation.proofs.Rules.{NotBelow}
+use Rattle.annotation.proofs.Recursion.{of-row, at-fields, at-no-kind, at-child-field, at-other-field, at-child, no-smaller}
+use Rattle.annotation.proofs.typing.child.Reads as child
+use Rattle.annotation.proofs.typing.child.Kinds as child-kinds
+use Rattle.annotation.proofs.typing.+child+field+fields+node.Lts-child as child-lts
+use Rattle.annotation.proofs.typing.field.Reads as field
+use Rattle.annotation.proofs.typing.field.Kinds as field-kinds
+use Rattle.annotation.proofs.typing.+child+field+fields+node.Lts-field as field-lts
+use Rattle.annotation.proofs.typing.fields.Reads as fields
+use Rattle.annotation.proofs.typing.fields.Kinds as fields-kinds
+use Rattle.annotation.proofs.typing.+child+field+fields+node.Lts-fields as fields-lts
+use Rattle.annotation.proofs.typing.node.Reads as node
+use Rattle.annotation.proofs.typing.node.Kinds as node-kinds
+use Rattle.annotation.proofs.typing.+child+field+fields+node.Lts-node as node-lts
+use Rattle.annotation.proofs.typing.enter.Reads as enter-reads
+use Rattle.annotation.proofs.typing.is_child.Reads as is-child-reads
+use Rattle.annotation.proofs.typing.parameter.Reads as parameter-reads
+use Rattle.annotation.proofs.typing.rule.Reads as rule-reads
+use Rattle.annotation.proofs.typing.typed.Reads as typed-reads
+use Rattle.script.proofs.kinds.row_of.Reads as row-of-reads
+use Rattle.script.proofs.word.child_a.Reads as child-a-reads
+use Rattle.script.proofs.word.child_b.Reads as child-b-reads
+use Rattle.script.proofs.word.child_c.Reads as child-c-reads
+use Rattle.script.proofs.word.kind.Reads as kind-reads
+use Rattle.script.proofs.word.name_a.Reads as name-a-reads
+use Rattle.script.proofs.word.node_word.Reads as node-word-reads
+use Rattle.script.proofs.word.type_b.Reads as type-b-reads
+use Rattle.annotation.proofs.typing.+child+field+fields+node.{statement}
+use Rattle.annotation.proofs.typing.+child+field+fields+node.Tie.{close}
+
+abbrev μ-child : Measures 4 child-kinds.ps ℕ
+μ-child κs a = 4 * a .1 .1 .1 .1 .0 .0
+
+abbrev μ-field : Measures 4 field-kinds.ps ℕ
+μ-field κs a = 4 * a .1 .1 .1 .1 .0 .0 + 1
+
+abbrev μ-fields : Measures 4 fields-kinds.ps ℕ
+μ-fields κs a = 4 * a .1 .1 .1 .1 .0 .0 + 2
+
+abbrev μ-node : Measures 4 node-kinds.ps ℕ
+μ-node κs a = 4 * a .1 .1 .1 .1 .0 .0 + 3
+
+abbrev child-at : ℕ → In 4 child-kinds.ps
+child-at t = and 4 child-kinds.ps (is 4 child-kinds.ps μ-child t) child.Pre
+
+abbrev child-below : ℕ → In 4 child-kinds.ps
+child-below t = and 4 child-kinds.ps (falls 4 child-kinds.ps _<_ μ-child t) child.Pre
+
+abbrev field-at : ℕ → In 4 field-kinds.ps
+field-at t = and 4 field-kinds.ps (is 4 field-kinds.ps μ-field t) field.Pre
+
+abbrev field-below : ℕ → In 4 field-kinds.ps
+field-below t = and 4 field-kinds.ps (falls 4 field-kinds.ps _<_ μ-field t) field.Pre
+
+abbrev fields-at : ℕ → In 4 fields-kinds.ps
+fields-at t = and 4 fields-kinds.ps (is 4 fields-kinds.ps μ-fields t) fields.Pre
+
+abbrev fields-below : ℕ → In 4 fields-kinds.ps
+fields-below t = and 4 fields-kinds.ps (falls 4 fields-kinds.ps _<_ μ-fields t) fields.Pre
+
+abbrev node-at : ℕ → In 4 node-kinds.ps
+node-at t = and 4 node-kinds.ps (is 4 node-kinds.ps μ-node t) node.Pre
+
+abbrev node-below : ℕ → In 4 node-kinds.ps
+node-below t = and 4 node-kinds.ps (falls 4 node-kinds.ps _<_ μ-node t) node.Pre
+
+-- what each knows of those it calls
+abbrev child-calls : ℕ → child-lts.Claims
+child-calls t = (
+  node-below t,
+  node.Post,
+  typed-reads.Asked,
+  typed-reads.Learnt,
+)
+
+abbrev field-calls : ℕ → field-lts.Claims
+field-calls t = (
+  is-child-reads.Asked,
+  is-child-reads.Learnt,
+  child-below t,
+  child.Post,
+  typed-reads.Asked,
+  typed-reads.Learnt,
+)
+
+abbrev fields-calls : ℕ → fields-lts.Claims
+fields-calls t = (
+  type-b-reads.Asked,
+  type-b-reads.Learnt,
+  parameter-reads.Asked,
+  parameter-reads.Learnt,
+  name-a-reads.Asked,
+  name-a-reads.Learnt,
+  enter-reads.Asked,
+  enter-reads.Learnt,
+  child-a-reads.Asked,
+  child-a-reads.Learnt,
+  field-below t,
+  field.Post,
+  child-b-reads.Asked,
+  child-b-reads.Learnt,
+  child-c-reads.Asked,
+  child-c-reads.Learnt,
+  rule-reads.Asked,
+  rule-reads.Learnt,
+)
+
+abbrev node-calls : ℕ → node-lts.Claims
+node-calls t = (
+  node-word-reads.Asked,
+  node-word-reads.Learnt,
+  kind-reads.Asked,
+  kind-reads.Learnt,
+  row-of-reads.Asked,
+  row-of-reads.Learnt,
+  fields-below t,
+  fields.Post,
+  typed-reads.Asked,
+  typed-reads.Learnt,
+)
+
+child-node-requires : (t : ℕ) → child-lts.Need-node-requires (child-calls t) (child-at t) child.Post
+child-node-requires t c κs = (omega (arith, c .before .before .before .before .pre .0, c .before .if1 .taken), tt)
+
+child-returns : (t : ℕ) → child-lts.Need-returns (child-calls t) (child-at t) child.Post
+child-returns t c = at-child (c .node .ensures)
+
+child-returns-2 : (t : ℕ) → child-lts.Need-returns-2 (child-calls t) (child-at t) child.Post
+child-returns-2 t c = no-smaller (c .before .if1 .left)
+
+field-child-requires : (t : ℕ) → field-lts.Need-child-requires (field-calls t) (field-at t) field.Post
+field-child-requires t c κs = (omega (arith, c .before .before .before .pre .0), tt)
+
+field-returns : (t : ℕ) → field-lts.Need-returns (field-calls t) (field-at t) field.Post
+field-returns t c = search at-child-field
+
+field-returns-2 : (t : ℕ) → field-lts.Need-returns-2 (field-calls t) (field-at t) field.Post
+field-returns-2 t c = search at-other-field
+
+fields-field-requires : (t : ℕ) → fields-lts.Need-field-requires (fields-calls t) (fields-at t) fields.Post
+fields-field-requires t c κs = (omega (arith, c .before .before .before .before .before .before .before .pre .0), tt)
+
+fields-field-requires-2 : (t : ℕ) → fields-lts.Need-field-requires-2 (fields-calls t) (fields-at t) fields.Post
+fields-field-requires-2 t c κs = (omega (arith, c .before .before .before .before .before .before .before .before .before .before .pre .0), tt)
+
+fields-field-requires-3 : (t : ℕ) → fields-lts.Need-field-requires-3 (fields-calls t) (fields-at t) fields.Post
+fields-field-requires-3 t c κs =
+    (omega (arith, c .before .before .before .before .before .before .before .before .before .before .before .before .before .pre .0), tt)
+
+fields-returns : (t : ℕ) → fields-lts.Need-returns (fields-calls t) (fields-at t) fields.Post
+fields-returns t c =
+    let s = c .before .before .before .before .before .before .before in
+    at-fields
+    (s .before .before .before .before .before .before .before .before .before .before .before .pre .1)
+    (s .before .before .before .before .before .before .before .before .before .parameter .ensures)
+    (rw (s .before .before .before .before .before .before .before .before .before .before .type-b .ensures))
+    (s .before .before .before .before .before .before .enter .ensures)
+    (search needs)
+    (omega (arith, s .before .before .before .before .before .before .before .name-a .ensures))
+    (s .before .before .before .field .ensures)
+    (search needs)
+    (omega (arith, s .before .before .before .before .child-a .ensures))
+    (s .field2 .ensures)
+    (search needs)
+    (omega (arith, s .before .child-b .ensures))
+    (c .before .before .before .before .field3 .ensures)
+    (search needs)
+    (omega (arith, c .before .before .before .before .before .child-c .ensures))
+    (c .rule .ensures)
+
+node-fields-requires : (t : ℕ) → node-lts.Need-fields-requires (node-calls t) (node-at t) node.Post
+node-fields-requires t c κs = (
+  omega (arith, c .before .before .before .before .before .before .pre .0),
+  of-row _ (c .before .before .before .before .node-word .ensures) (c .before .before .before .kind .ensures) (c .row-of .ensures)
+      (omega (arith, c .before .before .match .keys1)),
+)
+
+node-fields-requires-2 : (t : ℕ) → node-lts.Need-fields-requires-2 (node-calls t) (node-at t) node.Post
+node-fields-requires-2 t c κs = (
+  omega (arith, c .before .before .before .before .before .before .pre .0),
+  of-row _ (c .before .before .before .before .node-word .ensures) (c .before .before .before .kind .ensures) (c .row-of2 .ensures)
+      (omega (arith, c .before .before .match .keys2)),
+)
+
+node-fields-requires-3 : (t : ℕ) → node-lts.Need-fields-requires-3 (node-calls t) (node-at t) node.Post
+node-fields-requires-3 t c κs = (
+  omega (arith, c .before .before .before .before .before .before .pre .0),
+  of-row _ (c .before .before .before .before .node-word .ensures) (c .before .before .before .kind .ensures) (c .row-of3 .ensures)
+      (omega (arith, c .before .before .match .keys3)),
+)
+
+node-fields-requires-4 : (t : ℕ) → node-lts.Need-fields-requires-4 (node-calls t) (node-at t) node.Post
+node-fields-requires-4 t c κs = (
+  omega (arith, c .before .before .before .before .before .before .pre .0),
+  of-row _ (c .before .before .before .before .node-word .ensures) (c .before .before .before .kind .ensures) (c .row-of4 .ensures)
+      (omega (arith, c .before .before .match .keys4)),
+)
+
+node-fields-requires-5 : (t : ℕ) → node-lts.Need-fields-requires-5 (node-calls t) (node-at t) node.Post
+node-fields-requires-5 t c κs = (
+  omega (arith, c .before .before .before .before .before .before .pre .0),
+  of-row _ (c .before .before .before .before .node-word .ensures) (c .before .before .before .kind .ensures) (c .row-of5 .ensures)
+      (omega (arith, c .before .before .match .keys5)),
+)
+
+node-fields-requires-6 : (t : ℕ) → node-lts.Need-fields-requires-6 (node-calls t) (node-at t) node.Post
+node-fields-requires-6 t c κs = (
+  omega (arith, c .before .before .before .before .before .before .pre .0),
+  of-row _ (c .before .before .before .before .node-word .ensures) (c .before .before .before .kind .ensures) (c .row-of6 .ensures)
+      (omega (arith, c .before .before .match .keys6)),
+)
+
+node-fields-requires-7 : (t : ℕ) → node-lts.Need-fields-requires-7 (node-calls t) (node-at t) node.Post
+node-fields-requires-7 t c κs = (
+  omega (arith, c .before .before .before .before .before .before .pre .0),
+  of-row _ (c .before .before .before .before .node-word .ensures) (c .before .before .before .kind .ensures) (c .row-of7 .ensures)
+      (omega (arith, c .before .before .match .keys7)),
+)
+
+node-fields-requires-8 : (t : ℕ) → node-lts.Need-fields-requires-8 (node-calls t) (node-at t) node.Post
+node-fields-requires-8 t c κs = (
+  omega (arith, c .before .before .before .before .before .before .pre .0),
+  of-row _ (c .before .before .before .before .node-word .ensures) (c .before .before .before .kind .ensures) (c .row-of8 .ensures)
+      (omega (arith, c .before .before .match .keys8)),
+)
+
+node-fields-requires-9 : (t : ℕ) → node-lts.Need-fields-requires-9 (node-calls t) (node-at t) node.Post
+node-fields-requires-9 t c κs = (
+  omega (arith, c .before .before .before .before .before .before .pre .0),
+  of-row _ (c .before .before .before .before .node-word .ensures) (c .before .before .before .kind .ensures) (c .row-of9 .ensures)
+      (omega (arith, c .before .before .match .keys9)),
+)
+
+node-fields-requires-10 : (t : ℕ) → node-lts.Need-fields-requires-10 (node-calls t) (node-at t) node.Post
+node-fields-requires-10 t c κs = (
+  omega (arith, c .before .before .before .before .before .before .pre .0),
+  of-row _ (c .before .before .before .before .node-word .ensures) (c .before .before .before .kind .ensures) (c .row-of10 .ensures)
+      (omega (arith, c .before .before .match .keys10)),
+)
+
+node-fields-requires-11 : (t : ℕ) → node-lts.Need-fields-requires-11 (node-calls t) (node-at t) node.Post
+node-fields-requires-11 t c κs = (
+  omega (arith, c .before .before .before .before .before .before .pre .0),
+  of-row _ (c .before .before .before .before .node-word .ensures) (c .before .before .before .kind .ensures) (c .row-of11 .ensures)
+      (omega (arith, c .before .before .match .keys11)),
+)
+
+node-fields-requires-12 : (t : ℕ) → node-lts.Need-fields-requires-12 (node-calls t) (node-at t) node.Post
+node-fields-requires-12 t c κs = (
+  omega (arith, c .before .before .before .before .before .before .pre .0),
+  of-row _ (c .before .before .before .before .node-word .ensures) (c .before .before .before .kind .ensures) (c .row-of12 .ensures)
+      (omega (arith, c .before .before .match .keys12)),
+)
+
+node-fields-requires-13 : (t : ℕ) → node-lts.Need-fields-requires-13 (node-calls t) (node-at t) node.Post
+node-fields-requires-13 t c κs = (
+  omega (arith, c .before .before .before .before .before .before .pre .0),
+  of-row _ (c .before .before .before .before .node-word .ensures) (c .before .before .before .kind .ensures) (c .row-of13 .ensures)
+      (omega (arith, c .before .before .match .keys13)),
+)
+
+node-returns-14 : (t : ℕ) → node-lts.Need-returns-14 (node-calls t) (node-at t) node.Post
+unfolding NotBelow
+node-returns-14 t c = at-no-kind (c .before .before .before .node-word .ensures) (c .before .before .kind .ensures) (c .before .match .rest)
+
+pub +child+field+fields+node-spec : {M : Type 1} → statement M
++child+field+fields+node-spec =
+    close μ-child μ-field μ-fields μ-node
+    (λ t. child-lts.spec (child-calls t) (child-at t) child.Post (child-node-requires t) (child-returns t) (λ c κs. search needs) (child-returns-2 t))
+    (λ t.
+    field-lts.spec (field-calls t) (field-at t) field.Post (λ c κs. search needs) (field-child-requires t) (field-returns t)
+    (λ c κs. search needs) (field-returns-2 t))
+    (λ t.
+    fields-lts.spec (fields-calls t) (fields-at t) fields.Post (λ c κs. search needs) (λ c κs. search needs) (λ c κs. search needs) (λ c κs. search needs)
+    (λ c κs. search needs) (fields-field-requires t) (λ c κs. search needs) (fields-field-requires-2 t) (λ c κs. search needs)
+    (fields-field-requires-3 t) (λ c κs. search needs) (fields-returns t))
+    (λ t.
+    node-lts.spec (node-calls t) (node-at t) node.Post (λ c κs. search needs) (λ c κs. search needs)
+    (λ c κs. search needs) (node-fields-requires t)
+    (λ c κs. search needs) (node-fields-requires-2 t)
+    (λ c κs. search needs) (node-fields-requires-3 t)
+    (λ c κs. search needs) (node-fields-requires-4 t)
+    (λ c κs. search needs) (node-fields-requires-5 t)
+    (λ c κs. search needs) (node-fields-requires-6 t)
+    (λ c κs. search needs) (node-fields-requires-7 t)
+    (λ c κs. search needs) (node-fields-requires-8 t)
+    (λ c κs. search needs) (node-fields-requires-9 t)
+    (λ c κs. search needs) (node-fields-requires-10 t)
+    (λ c κs. search needs) (node-fields-requires-11 t)
+    (λ c κs. search needs) (node-fields-requires-12 t)
+    (λ c κs. search needs) (node-fields-requires-13 t)
+    (λ c κs. search needs)
+    (λ c. c .fields .ensures)
+    (λ c. c .fields2 .ensures)
+    (λ c. c .fields3 .ensures)
+    (λ c. c .fields4 .ensures)
+    (λ c. c .fields5 .ensures)
+    (λ c. c .fields6 .ensures)
+    (λ c. c .fields7 .ensures)
+    (λ c. c .fields8 .ensures)
+    (λ c. c .fields9 .ensures)
+    (λ c. c .fields10 .ensures)
+    (λ c. c .fields11 .ensures)
+    (λ c. c .fields12 .ensures)
+    (λ c. c .fields13 .ensures)
+    (node-returns-14 t))
