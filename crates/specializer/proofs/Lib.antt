@@ -6,4 +6,6 @@ pub mod Refusing
 pub mod Running
 pub mod Numbers
 pub mod Making
+pub mod Exactly
 pub mod EntryDemand
+pub mod Trials
