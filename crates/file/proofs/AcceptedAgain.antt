@@ -1,5 +1,5 @@
--- Demand 3's last part, through the bytes: the written script of a finished run of an accepted file, where 26 does not hold,
--- is accepted again, by ALL of refusals 1 to 11. Assumes nothing.
+-- Demand 3, whole, of the evaluation rules. Its last part goes through the bytes: the written script of a finished run of an accepted script,
+-- where 26 does not hold, is accepted again, by ALL of refusals 1 to 11, whatever the output. Assumes nothing.
 use Prim.Native.Nat.{ℕ, _≤_}
 use mathlib.Core.Path.{_≡_, subst⁻¹, _∙_}
 use mathlib.Core.Bool.{true}
@@ -17,44 +17,34 @@ use Rattle.lambdamix.specs.Checker.{annotationRefusal}
 use Rattle.lambdamix.specs.Structure.{firstFailing, orElse, structureRefusal}
 use Rattle.lambdamix.specs.Code.{Code, fits, written}
 use Rattle.lambdamix.specs.Specializing.{specialized, finished}
-use Rattle.lambdamix.specs.Demand.{Accepted}
 use Rattle.lambdamix.proofs.Checking.{checker-accepts}
 use Rattle.lambdamix.proofs.Range.{Fits, CodeFits, code-in-range}
 use Rattle.lambdamix.proofs.Suits.{Scoped}
 use Rattle.lambdamix.proofs.Bounds.{names-fit}
+use Rattle.lambdamix.proofs.WellAnnotated as WellAnnotated
 use Rattle.lambdamix.proofs.WellAnnotated.{finished-run, finished-code-scoped}
-use Rattle.lambdamix.proofs.DemandThree.{demand-three}
+use Rattle.lambdamix.proofs.WrittenAgain as WrittenAgain
 use Rattle.script.specs.File.{scriptIn, fileBytes}
-use Rattle.script.specs.Refusals.{inputFits, countsRight, contentOf, contentRefusal, scriptRefusal}
+use Rattle.script.specs.Refusals.{inputFits, contentOf, contentRefusal, scriptRefusal}
 use Rattle.file.specs.Encodable.{AllBytes, Encodable}
 use Rattle.file.specs.AcceptedFile.{AcceptedFile}
+use Rattle.file.specs.Demand.{DemandThree}
 use Rattle.script.proofs.Rows.{everywhere}
 use Rattle.script.proofs.Sound.{sound}
-use Rattle.script.proofs.RefusalLaws.{neither, not-refused, pass-over, no-record, passes}
+use Rattle.script.proofs.RefusalLaws.{neither, pass-over, no-record, passes}
 use Rattle.file.proofs.FileLaws.{read-written, file-refusal, read-fits, script-passes}
 use Rattle.file.proofs.WrittenContent.{sizes-right, each-good, written-counts, written-content}
 
--- what refusals 3 to 11 that are none say of a script
-module _ (s : Script) (passes-all : scriptRefusal s ≡ none) (annotated : annotationRefusal s ≡ none) where
-  parts-pass :
-      (countsRight (length (s .types)) (length (s .inputs)) (length (s .nodes)) ≡ true)
-      × (contentRefusal s ≡ none)
-      × (structureRefusal s ≡ none)
-  unfolding scriptRefusal
-  parts-pass =
-      let (counts, rest) = neither _ _ passes-all in
-      let (content, structure) = neither _ _ rest in
-      (not-refused _ 3 0 counts, content, structure)
-
-  pub script-accepted : Accepted s
-  script-accepted = record { structured = parts-pass .2; annotated = annotated }
-
+-- what refusals 3 to 8 that are none say of a script's inputs
+module _ (s : Script) (passes-all : scriptRefusal s ≡ none) where
   few-inputs : leb (length (s .inputs)) maxInputs ≡ true
   few-inputs = le-leb _ _ (sound s passes-all .within .inputs)
 
   inputs-right : firstFailing (inputFits (λ j. getD (s .inputs) j 0)) 0 (length (s .inputs)) ≡ none
-  unfolding contentRefusal contentOf
-  inputs-right = no-record 4 _ _ (neither _ _ (neither _ _ (parts-pass .1) .1) .0)
+  unfolding scriptRefusal contentRefusal contentOf
+  inputs-right =
+      let content = neither _ _ (neither _ _ passes-all .1) .0 in
+      no-record 4 _ _ (neither _ _ (neither _ _ content .1) .0)
 
 -- a written script that passes 3 to 11 and fits the widths of a file passes 1 to 11 through its bytes
 through-bytes :
@@ -120,20 +110,33 @@ module _
     written-again =
         let (l, y, q) = finished-run s zs fuel ends in
         let scoped = finished-code-scoped s (checker-accepts s .0 annotated) zs fuel q in
-        let few = few-inputs s passes-all annotated in
-        let right = inputs-right s passes-all annotated in
+        let few = few-inputs s passes-all in
+        let right = inputs-right s passes-all in
         let inputs : inputCount s ≤ maxInputs = leb-true (length (s .inputs)) maxInputs few in
         let names : y ≤ 65536 = le-of-lt (names-fit s zs fuel inputs limit q) in
         let constants = code-in-range s zs fuel values settings q in
-        let again = demand-three s (script-accepted s passes-all annotated) zs fuel .accepted-again c k ends fitting in (
+        let (structured, again) = WrittenAgain.written-passes s annotated zs fuel c k ends fitting in (
           written-fits s few right scoped names constants fitting,
-          written-passes s few right scoped names constants fitting (again .structured),
-          again .annotated,
+          written-passes s few right scoped names constants fitting structured,
+          again,
         )
 
     -- Its file passes all of refusals 1 to 11.
     pub script-accepted-again : AcceptedFile (fileBytes (written s c))
     script-accepted-again = let (e, r, a) = written-again in through-bytes (written s c) e r a
+
+-- Demand 3 of a script past 3 to 11, for numbers of 32 bits and fuel within its limit.
+pub script-demand-three :
+    (s : Script) → scriptRefusal s ≡ none → annotationRefusal s ≡ none → ((i : ℕ) → Fits (nodeAt s i .value)) → (zs : List ℤ) →
+    ((i : ℕ) → Fits (getD zs i (pos 0))) → (fuel : ℕ) → fuel ≤ maxFuel → DemandThree s zs fuel
+script-demand-three s passes-all annotated values zs settings fuel limit =
+    let d = checker-accepts s .0 annotated in
+    record {
+      no-clash = WellAnnotated.no-clash s d zs fuel;
+      with-code = λ v l y e. WellAnnotated.finishes-with-code s d zs fuel e;
+      proper-names = λ c k e. WellAnnotated.proper-names s d zs fuel e;
+      accepted-again = script-accepted-again s passes-all annotated values zs settings fuel limit;
+    }
 
 -- The values of a script that was read have 32 bits.
 pub values-fit : (bs : List ℕ) → AllBytes bs → (i : ℕ) → Fits (nodeAt (scriptIn bs) i .value)
@@ -142,11 +145,11 @@ values-fit bs bytes =
     everywhere (λ (d : Node). Fits (d .value)) blankNode (scriptIn bs .nodes) (record { within = omega arith })
     (λ i l. record { within = read-fits bs bytes .nodes i l .value })
 
--- Demand 3, last part: "wherever it fits a file, the checker accepts that file again". The file of the code that making an
--- accepted file leaves passes all of refusals 1 to 11, for settings of 32 bits and fuel within its limit.
-pub accepted-again :
+-- Theorem, demand 3 of the evaluation rules: of every accepted file, for settings of 32 bits and fuel within its limit, no run takes number, code
+-- and function for one another; a run that finishes finishes with code; every name in it is a late input's or is used inside its own
+-- binder; and wherever it fits a script file, that file is accepted again.
+pub demand-three :
     (bs : List ℕ) → AllBytes bs → AcceptedFile bs → (zs : List ℤ) → ((i : ℕ) → Fits (getD zs i (pos 0))) → (fuel : ℕ) →
-    fuel ≤ maxFuel → (c : Code) (k : ℕ) → specialized (scriptIn bs) zs fuel ≡ finished c k → fits c ≡ true →
-    AcceptedFile (fileBytes (written (scriptIn bs) c))
-accepted-again bs bytes h zs settings fuel limit c k e f =
-    script-accepted-again (scriptIn bs) (script-passes bs bytes (h .read)) (h .annotated) (values-fit bs bytes) zs settings fuel limit c k e f
+    fuel ≤ maxFuel → DemandThree (scriptIn bs) zs fuel
+demand-three bs bytes h =
+    script-demand-three (scriptIn bs) (script-passes bs bytes (h .read)) (h .annotated) (values-fit bs bytes)

@@ -2,4 +2,4 @@ pub mod Heads
 pub mod Encodable
 pub mod Written
 pub mod AcceptedFile
-pub mod FileTrials
+pub mod Demand

@@ -11,12 +11,12 @@ use Rattle.lambdamix.specs.Structure.{firstBy, firstFailing, refusedAt, 
 use Rattle.lambdamix.specs.Code.{size, codeHeight, fits, operatorNumber, formNode, top, tops, nodesFrom, written}
 use Rattle.lambdamix.specs.Value.{valueAtBy, valueAt, stopNumber, stopPlace, andThen, _>>=_, give, halt, wantNumber, wantCode, wantFunction, found}
 use Rattle.lambdamix.specs.Evaluation.{jobPlace, exactly, branchBy, branch, fresh, apply, unfoldOnce, visitAll, visited, performed, run}
-use Rattle.lambdamix.specs.Specializing.{inputValue, settingsAfter, environmentFrom, inputEnvironment, staticInputs, rootAnswer, rootRun, specialized, madeBy, answerReply, callRefusal, unlessRefused, make, bareRun}
+use Rattle.lambdamix.specs.Specializing.{inputValue, settingsAfter, environmentFrom, inputEnvironment, staticInputs, rootAnswer, rootRun, specialized, callRefusal, annotationBy, laterRefusal}
 use Rattle.lambdamix.specs.Text.{ascii, digitsBy, digitsStep, digits, decimal}
 use Rattle.lambdamix.specs.Listing.{nameBy, nameText, operatorText, formerText, spaced, group, termText, listing}
-use Rattle.lambdamix.specs.Trials.{shownReply, replyBy, shown, inputA, inputAWithoutLift, lowestByMinusOne, liftOfFive, capturing, trials}
+use Rattle.lambdamix.specs.Trials.{inputA, inputAWithoutLift, lowestByMinusOne, liftOfFive, capturing, power, trials}
 
 -- `unfolding computing` opens all that its own line names
 unfoldable pub computing : Unit {0}
-unfolding maxTypes maxInputs maxNodes maxHeight maxDepth maxFuel programFuel settle divideBy arithmetic guarded below fallingBy falling inputCount nodeCount root nodeAt rows rowOf fields ifChild childFields children arity childAt operatorOf build terms treeStep tree height sameType typeBy typeStep typeOf typeCount someType listed typeAtBy typeAt inputTypeBy inputType contextFrom inputContext lowerBy lower both own rule provided varRule liftRule abstrBy abstrRule applyRule fixRule ifRule opRule abstrDynRule allDynamic dynRule gather check rootRule checkedRoot annotationRefusal firstBy firstFailing refusedAt orElse oneIf occurrences uses usedOnce useRefusal lowEnough heightRefusal lowestBy lowest member unlessBound unbound scopeRefusal structureRefusal size codeHeight fits operatorNumber formNode top tops nodesFrom written valueAtBy valueAt stopNumber stopPlace andThen _>>=_ give halt wantNumber wantCode wantFunction found nodeOf jobPlace exactly branchBy branch fresh apply unfoldOnce visitAll visited performed run inputValue settingsAfter environmentFrom inputEnvironment staticInputs rootAnswer rootRun specialized madeBy answerReply refusedUnless callRefusal unlessRefused make bareRun ascii digitsBy digitsStep digits decimal nameBy nameText operatorText formerText spaced group termText listing shownReply replyBy shown inputA inputAWithoutLift lowestByMinusOne liftOfFive capturing trials
+unfolding maxTypes maxInputs maxNodes maxHeight maxDepth maxFuel programFuel settle divideBy arithmetic guarded below fallingBy falling inputCount nodeCount root nodeAt rows rowOf fields ifChild childFields children arity childAt operatorOf build terms treeStep tree height sameType typeBy typeStep typeOf typeCount someType listed typeAtBy typeAt inputTypeBy inputType contextFrom inputContext lowerBy lower both own rule provided varRule liftRule abstrBy abstrRule applyRule fixRule ifRule opRule abstrDynRule allDynamic dynRule gather check rootRule checkedRoot annotationRefusal firstBy firstFailing refusedAt orElse oneIf occurrences uses usedOnce useRefusal lowEnough heightRefusal lowestBy lowest member unlessBound unbound scopeRefusal structureRefusal size codeHeight fits operatorNumber formNode top tops nodesFrom written valueAtBy valueAt stopNumber stopPlace andThen _>>=_ give halt wantNumber wantCode wantFunction found nodeOf jobPlace exactly branchBy branch fresh apply unfoldOnce visitAll visited performed run inputValue settingsAfter environmentFrom inputEnvironment staticInputs rootAnswer rootRun specialized refusedUnless callRefusal annotationBy laterRefusal ascii digitsBy digitsStep digits decimal nameBy nameText operatorText formerText spaced group termText listing inputA inputAWithoutLift lowestByMinusOne liftOfFive capturing power trials
 computing = tt

@@ -16,6 +16,7 @@ pub mod WrittenUses
 pub mod WrittenHeight
 pub mod Written
 pub mod WellAnnotated
-pub mod DemandThree
+pub mod WrittenAgain
+pub mod Finished
 pub mod Computing
 pub mod Trials

@@ -1,8 +1,11 @@
--- Small laws on Bool and on tests, for all proofs of the calculus. Assumes nothing.
+-- Small laws on Bool, on tests and on the branch that a condition takes, for all proofs of the calculus. Assumes nothing.
 use mathlib.Core.Path.{_≡_, refl, sym, subst}
 use mathlib.Core.Bool.{Bool, true, false, _&&_, _||_, true≢false}
 use mathlib.Core.Logic.{_⊎_, inl, inr}
+use lib.IntN.{ℤ}
 use lib.Dec.{T}
+use Rattle.lambdamix.specs.Term.{Term}
+use Rattle.lambdamix.specs.Evaluation.{branchBy, branch}
 
 pub T-true : {b : Bool} → T b → b ≡ true
 T-true {b = true} t = refl
@@ -33,3 +36,14 @@ or-right false e = e
 pub holds-or-fails : (b : Bool) → (b ≡ true) ⊎ (b ≡ false)
 holds-or-fails true = inl refl
 holds-or-fails false = inr refl
+
+-- what holds of both branches holds of the one that a test takes,
+by-test : (P : Term → Type 0) (b : Bool) {e f : Term} → P e → P f → P (branchBy b e f)
+unfolding branchBy
+by-test P true p q = q
+by-test P false p q = p
+
+-- and of the one that a condition takes, whatever it tests
+pub by-branch : (P : Term → Type 0) (z : ℤ) {e f : Term} → P e → P f → P (branch z e f)
+unfolding branch
+by-branch P z p q = by-test P _ p q

@@ -2,7 +2,7 @@
 -- Assumes nothing.
 use Prim.Native.Nat.{ℕ, _≤_}
 use mathlib.Core.Path.{_≡_, sym, ap, _∙_}
-use mathlib.Core.Bool.{true}
+use mathlib.Core.Bool.{true, false}
 use mathlib.Core.List.{List, _++_}
 use mathlib.Core.Option.{Option, none}
 use native.Mathlib.Omega.{arith}
@@ -12,15 +12,12 @@ use lib.Seq.{take-at}
 use lib.Dec.{leb, ltb}
 use borrow.Author.Tests.{le-leb, leb-true}
 use Rattle.lambdamix.specs.Limits.{maxInputs, maxNodes, maxHeight, maxFuel, programFuel, maxBytes}
-use Rattle.lambdamix.specs.Script.{Script, nodeCount}
+use Rattle.lambdamix.specs.Script.{Script}
 use Rattle.lambdamix.specs.Checker.{Refusal, annotationRefusal}
-use Rattle.lambdamix.specs.Structure.{orElse}
 use Rattle.lambdamix.specs.Code.{Code, size, codeHeight, fits, written}
-use Rattle.lambdamix.specs.Specializing as Calculus
-use Rattle.lambdamix.specs.Specializing.{callRefusal, unlessRefused, answerReply, madeBy, make, specialized, finished}
+use Rattle.lambdamix.specs.Specializing.{annotationBy, laterRefusal, specialized, finished}
 use Rattle.lambdamix.specs.Listing.{listing}
 use Rattle.lambdamix.proofs.Tests.{and-both}
-use Rattle.lambdamix.proofs.WrittenTree.{written-size}
 use Rattle.script.specs.declared.Counts.{Counts}
 use Rattle.script.specs.declared.Refusal as Told
 use Rattle.script.specs.File.{fileBytes, fileLength, nodeOffset, scriptIn}
@@ -28,24 +25,24 @@ use Rattle.script.specs.Refusals.{fileRefusal}
 use Rattle.script.specs.Replies.{headCounts}
 use Rattle.script.specs.Tables.{Tables, over}
 use Rattle.script.proofs.RefusalLaws.{neither}
-use Rattle.file.proofs.FileLaws.{file-length, file-refusal, read-written, script-counts, script-passes}
+use Rattle.file.proofs.FileLaws.{file-refusal, read-written, script-counts, script-passes}
 use Rattle.file.proofs.AcceptedAgain.{written-again, values-fit}
-use Rattle.residual.specs.AfterRun.{refusal}
+use Rattle.residual.specs.AfterRun as AfterRun
+use Rattle.residual.specs.AfterRun.{refusal, nodesIn, Made, codeMade}
 use Rattle.specializer.specs.declared.Reply.{Reply}
 use Rattle.specializer.specs.declared.Reply.the-variants as Reply
+use Rattle.specializer.specs.Making.{madeUnless}
 use Rattle.specializer.specs.Entry.{replied}
-use Rattle.respond.specs.Response.{wholeSettings, settingsReply, unmadeText, countsText, replyText}
+use Rattle.specializer.proofs.Exactly.{made-length, made-code}
+use Rattle.respond.specs.Response as Response
+use Rattle.respond.specs.Response.{wholeSettings, madeBy, answerReply, unlessRefused, scriptReply, settingsReply, unmadeText, countsText, replyText}
 use Rattle.respond.specs.Given.{givenSettings}
 use Rattle.respond.specs.Stages.{Prints, PrintsMade, Held, MakesGiven, AnswersScript}
 use Rattle.respond.proofs.Files.{few-inputs}
 use Rattle.respond.proofs.GivenSettings.{given-reply, settings-fit}
-use Rattle.respond.proofs.Making.{making-is, made-told, unmade-told}
+use Rattle.respond.proofs.Making.{making-is, unmade-told}
 
 -- ---- the file of code that fits
-
-made-length : (s : Script) (c : Code) → length (fileBytes (written s c)) ≡ fileLength 0 (length (s .inputs)) (size c)
-unfolding written nodeCount
-made-length s c = file-length (written s c) ∙ ap (fileLength 0 (length (s .inputs))) (written-size s c)
 
 made-room : (s : Script) → length (s .inputs) ≤ maxInputs → (c : Code) → fits c ≡ true → length (fileBytes (written s c)) ≤ maxBytes
 unfolding fits fileLength nodeOffset maxInputs maxNodes maxBytes
@@ -60,16 +57,16 @@ over-take new old j e = take-at new _ j e
 
 done-reply :
     (s : Script) (zs : List ℤ) {c : Code} {k : ℕ} {r : Option Refusal} → r ≡ none → specialized s zs programFuel ≡ finished c k →
-    fits c ≡ true → unlessRefused r (answerReply (specialized s zs programFuel)) ≡ Calculus.made c k
+    fits c ≡ true → unlessRefused r (answerReply (specialized s zs programFuel)) ≡ Response.made c k
 unfolding unlessRefused answerReply madeBy
 done-reply s zs e f g = rw (e, f, g)
 
 reply-is :
     (bs rest : List ℕ) → fileRefusal bs ≡ none →
-    unlessRefused (orElse (annotationRefusal (scriptIn bs)) (callRefusal (scriptIn bs) (givenSettings rest) programFuel))
+    unlessRefused (laterRefusal false (scriptIn bs) (givenSettings rest) programFuel true)
     (answerReply (specialized (scriptIn bs) (givenSettings rest) programFuel))
     ≡ settingsReply (wholeSettings rest) (scriptIn bs) rest
-unfolding make
+unfolding scriptReply
 reply-is bs rest e = given-reply (scriptIn bs) (few-inputs bs e) rest
 
 -- ---- a script that is held
@@ -94,24 +91,28 @@ module _ {n : Counts} {x : Tables} (rest : List ℕ) {file made : List ℕ} {rep
   pub answered-made :
       {k l r : ℕ} {out printed : List ℕ} → reply ≡ Reply.Made k l → PrintsMade (n .inputs) k l made out printed r →
       AnswersScript n x rest out printed r
-  unfolding replied headCounts programFuel maxFuel replyText
+  unfolding replied headCounts programFuel maxFuel replyText laterRefusal annotationBy nodesIn
   answered-made {k} {l} q p = record {
     answers = λ bs h all long.
         let s : Script = scriptIn bs in
         let zs : List ℤ = givenSettings rest in
-        let t = made-told s zs file made _ k l ((rw q at (m .gives)) ∙ making-is h zs (m .stores) (m .enough) file) in
+        let gives : record { reply = AfterRun.made k l; output = made } ≡ madeUnless (laterRefusal false s zs programFuel true) s zs programFuel file =
+        (rw q at (m .gives)) ∙ making-is h zs (m .stores) (m .enough) file in
+        let t = made-code s zs programFuel file (laterRefusal false s zs programFuel true) (sym (ap (λ (g : Made). g .reply) gives)) in
         let c : Code = t .code in
+        let given : record { reply = AfterRun.made k l; output = made } ≡ codeMade s c k file = gives ∙ t .whole in
+        let nodes : l ≡ size c = ap (λ (g : Made). nodesIn (g .reply)) given in
         let annotated : annotationRefusal s ≡ none = neither _ _ (t .free) .0 in
         let (fit, passes, again) =
         written-again s (script-passes bs (h .bytes) (h .read)) annotated (values-fit bs (h .bytes)) zs (settings-fit rest all) programFuel (omega arith) c k (t .run) (t .fitting) in
         let same : scriptIn (fileBytes (written s c)) ≡ written s c = read-written (written s c) fit in
         let read : fileRefusal (fileBytes (written s c)) ≡ none = file-refusal (written s c) fit ∙ passes in
-        let part : take (fileLength 0 (n .inputs) l) made ≡ fileBytes (written s c) = file-part bs h c (t .nodes) (t .file) in
-        let text : countsText k l ++ listing (scriptIn (take (fileLength 0 (n .inputs) l) made)) ≡ replyText s (Calculus.made c k) =
+        let part : take (fileLength 0 (n .inputs) l) made ≡ fileBytes (written s c) = file-part bs h c nodes (ap (λ (g : Made). g .output) given) in
+        let text : countsText k l ++ listing (scriptIn (take (fileLength 0 (n .inputs) l) made)) ≡ replyText s (Response.made c k) =
         ap (λ (w : List ℕ). countsText k l ++ listing (scriptIn w)) part
         ∙ ap (λ (w : Script). countsText k l ++ listing w) same
-        ∙ ap (λ (j : ℕ). countsText k j ++ listing (written s c)) (t .nodes) in
-        let finish : Calculus.made c k ≡ settingsReply (wholeSettings rest) s rest =
+        ∙ ap (λ (j : ℕ). countsText k j ++ listing (written s c)) nodes in
+        let finish : Response.made c k ≡ settingsReply (wholeSettings rest) s rest =
         sym (done-reply s zs (t .free) (t .run) (t .fitting)) ∙ reply-is bs rest (h .read) in
         rw (← finish, ← text) (p .prints (rw part read) long);
   }

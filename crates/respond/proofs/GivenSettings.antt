@@ -14,14 +14,14 @@ use Rattle.lambdamix.specs.Limits.{maxInputs, programFuel}
 use Rattle.lambdamix.specs.Script.{Script}
 use Rattle.lambdamix.specs.Checker.{Refusal, annotationRefusal}
 use Rattle.lambdamix.specs.Structure.{orElse, oneIf, refusedUnless}
-use Rattle.lambdamix.specs.Specializing.{Reply, unmade, staticInputs, callRefusal, unlessRefused, answerReply, specialized, make}
+use Rattle.lambdamix.specs.Specializing.{staticInputs, callRefusal, annotationBy, laterRefusal, specialized}
 use Rattle.lambdamix.proofs.Range.{Fits}
 use Rattle.script.specs.File.{numbered}
 use Rattle.file.specs.Encodable.{AllBytes}
 use Rattle.file.proofs.ByteLaws.{value-small}
 use Rattle.script.proofs.Rows.{everywhere}
 use Rattle.script.proofs.Numbered.{length-numbered, row-at}
-use Rattle.respond.specs.Response.{programSettings, wholeSettings, settingAt, settings, settingsReply}
+use Rattle.respond.specs.Response.{programSettings, wholeSettings, settingAt, settings, Reply, unmade, answerReply, unlessRefused, scriptReply, settingsReply}
 use Rattle.respond.specs.Given.{givenBy, givenCount, givenSettings}
 
 abbrev twelve : Option Refusal
@@ -57,8 +57,8 @@ module _ (s : Script) (few : length (s .inputs) ≤ maxInputs) where
   abbrev twelve-reply : Reply
   twelve-reply = unlessRefused (annotationRefusal s) (unmade 12 0 0)
 
-  refused-reply : (zs : List ℤ) → callRefusal s zs programFuel ≡ twelve → make s zs programFuel ≡ twelve-reply
-  unfolding make unlessRefused orElse
+  refused-reply : (zs : List ℤ) → callRefusal s zs programFuel ≡ twelve → scriptReply s zs ≡ twelve-reply
+  unfolding scriptReply laterRefusal annotationBy unlessRefused orElse
   refused-reply zs e = rw e (go (annotationRefusal s))
     where
       go :
@@ -67,16 +67,16 @@ module _ (s : Script) (few : length (s .inputs) ≤ maxInputs) where
       go none = refl
       go (some f) = refl
 
-  pub given-reply : (bs : List ℕ) → make s (givenSettings bs) programFuel ≡ settingsReply (wholeSettings bs) s bs
+  pub given-reply : (bs : List ℕ) → scriptReply s (givenSettings bs) ≡ settingsReply (wholeSettings bs) s bs
   unfolding givenSettings givenCount givenBy settingsReply settings
   given-reply bs = go (ltb (length bs / 6) programSettings) (wholeSettings bs) refl
     where
-      wrong : make s (numbered (settingAt bs) 0 programSettings) programFuel ≡ twelve-reply
+      wrong : scriptReply s (numbered (settingAt bs) 0 programSettings) ≡ twelve-reply
       wrong = refused-reply (numbered (settingAt bs) 0 programSettings) (wrong-refused bs)
 
       go :
           (f w : Bool) → ltb (length bs / 6) programSettings ≡ f →
-          make s (numbered (settingAt bs) 0 (givenBy (f && w) (length bs / 6))) programFuel ≡ settingsReply w s bs
+          scriptReply s (numbered (settingAt bs) 0 (givenBy (f && w) (length bs / 6))) ≡ settingsReply w s bs
       go true true e = refl
       go true false e = wrong
       go false true e = wrong ∙ sym (refused-reply (settings bs) (many-refused bs (ltb-false (length bs / 6) programSettings e)))

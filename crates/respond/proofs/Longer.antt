@@ -13,13 +13,12 @@ use borrow.Author.Tests.{le-leb}
 use Rattle.lambdamix.specs.Limits.{maxTypes, maxInputs, maxNodes, maxBytes}
 use Rattle.lambdamix.specs.Checker.{Refusal, annotationRefusal}
 use Rattle.lambdamix.specs.Structure.{orElse, refusedUnless}
-use Rattle.lambdamix.specs.Specializing.{unmade, unlessRefused}
 use Rattle.lambdamix.proofs.Tests.{and-both}
 use Rattle.script.specs.Bytes.{byteAt, word16}
 use Rattle.script.specs.File.{fileLength, nodeOffset, headTypes, headInputs, headNodes, scriptIn}
 use Rattle.script.specs.Refusals.{marked, headMarked, countsRight, fileRefusal, headRefusal}
 use Rattle.script.proofs.Sound.{in-limits}
-use Rattle.respond.specs.Response.{programSettings, headRight, scriptLengthBy, scriptLength, scriptPart, settingsPart, inputReply, replyTo, unmadeText, replyText, response}
+use Rattle.respond.specs.Response.{programSettings, headRight, scriptLengthBy, scriptLength, scriptPart, settingsPart, unmade, unlessRefused, inputReply, replyTo, unmadeText, replyText, response}
 use Rattle.respond.proofs.Files.{few-inputs}
 use Rattle.respond.proofs.GivenSettings.{many-settings}
 

@@ -12,8 +12,9 @@ use Rattle.lambdamix.specs.Limits.{maxInputs, programFuel}
 use Rattle.lambdamix.specs.Script.{Script}
 use Rattle.lambdamix.specs.Checker.{Refusal, annotationRefusal}
 use Rattle.lambdamix.specs.Structure.{firstFailing}
-use Rattle.lambdamix.specs.Code.{size, written}
-use Rattle.lambdamix.specs.Specializing.{Reply, made, unmade, unlessRefused, make}
+use Rattle.lambdamix.specs.Code.{Code, size, fits, written}
+use Rattle.lambdamix.specs.Value.{stopNumber, stopPlace}
+use Rattle.lambdamix.specs.Specializing.{Answer, finished, halted, specialized, laterRefusal}
 use Rattle.lambdamix.specs.Text.{ascii, digits}
 use Rattle.lambdamix.specs.Listing.{listing}
 use Rattle.script.specs.Bytes.{word32, signed32}
@@ -55,9 +56,30 @@ settingAt bs j = signed32 (word32 bs (6 * j + 2))
 unfoldable pub settings : List ℕ → List ℤ
 settings bs = numbered (settingAt bs) 0 (length bs / 6)
 
+-- what is told of an input: finished code that fits a file, with its steps; or number, place and steps
+pub data Reply : Type 0 where
+  made : Code → ℕ → Reply
+  unmade : ℕ → ℕ → ℕ → Reply
+
+unfoldable pub madeBy : Bool → Code → ℕ → Reply
+madeBy true c k = made c k
+madeBy false c k = unmade 26 0 k
+
+unfoldable pub answerReply : Answer → Reply
+answerReply (finished c k) = madeBy (fits c) c k
+answerReply (halted w k) = unmade (stopNumber w) (stopPlace w) k
+
+unfoldable pub unlessRefused : Option Refusal → Reply → Reply
+unlessRefused none r = r
+unlessRefused (some f) r = unmade (f .number) (f .place) 0
+
+-- a script past 1 to 8 with these settings: the program's stores suffice, and its output has room for every file
+unfoldable pub scriptReply : Script → List ℤ → Reply
+scriptReply s zs = unlessRefused (laterRefusal false s zs programFuel true) (answerReply (specialized s zs programFuel))
+
 -- the making with what follows the script; what isn't whole records is 12, in 12's place
 unfoldable pub settingsReply : Bool → Script → List ℕ → Reply
-settingsReply true s bs = make s (settings bs) programFuel
+settingsReply true s bs = scriptReply s (settings bs)
 settingsReply false s bs = unlessRefused (annotationRefusal s) (unmade 12 0 0)
 
 unfoldable pub inputReply : Option Refusal → Script → List ℕ → Reply

@@ -1,2 +1,3 @@
--- What the proofs of several functions use.
+-- What the proofs of several functions use, and demand 3 of the maker for callers in C.
 mod Carrying
+pub mod MakeDemand

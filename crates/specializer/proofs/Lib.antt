@@ -5,4 +5,6 @@ pub mod Binding
 pub mod Refusing
 pub mod Running
 pub mod Making
+pub mod Exactly
 pub mod EntryDemand
+pub mod Trials

@@ -2,3 +2,5 @@ pub mod Start
 pub mod Making
 pub mod Entry
 pub mod EntryDemand
+pub mod Trials
+pub mod Exactly

@@ -5,7 +5,7 @@ use mathlib.Core.Option.{Option, none}
 use Rattle.lambdamix.specs.Script.{Script}
 use Rattle.lambdamix.specs.Checker.{Refusal, annotationRefusal}
 use Rattle.script.specs.Replies.{refusalOf}
-use Rattle.specializer.specs.Making.{annotationBy}
+use Rattle.lambdamix.specs.Specializing.{annotationBy}
 use borrow.Author.Needs.{needs}
 use Rattle.specializer.proofs.before.annotation_by.Statement.{statement}
 use Rattle.specializer.proofs.before.annotation_by.Tie as tie

@@ -2,7 +2,7 @@
 use mathlib.Core.Path.{refl}
 use Rattle.script.specs.Tables.{rowInput, tablesScript}
 use Rattle.script.proofs.Verdicts.{told-first, told-then}
-use Rattle.specializer.specs.Entry.{laterRefusal}
+use Rattle.lambdamix.specs.Specializing.{laterRefusal}
 use borrow.Author.Needs.{needs}
 use Rattle.specializer.proofs.before.call_refused.Statement.{statement}
 use Rattle.specializer.proofs.before.call_refused.Tie as tie
