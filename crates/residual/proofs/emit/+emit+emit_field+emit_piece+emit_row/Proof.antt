@@ -147,7 +147,8 @@ module _
 
     row-requires :
         (4 * a .p + 2 < t)
-        × (((a .base ≤ farthest) × (after (a .k .0) (rowPieces r (codeBelow (a .codes .now) (a .p)) (a .x)) < maxNodes)) × (a .p ≤ length (a .codes .now)))
+        × (((a .base ≤ farthest) × (after (a .k .0) (rowPieces r (codeBelow (a .codes .now) (a .p)) (a .x)) < maxNodes))
+        × (a .p ≤ length (a .codes .now)))
     row-requires =
         let p = m .before .before .before .pre in
         (omega (arith, p .0), ((p .1 .0 .0, row-low by-row (a .k .0) (p .1 .0 .1)), p .1 .1 .0))
