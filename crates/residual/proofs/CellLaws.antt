@@ -23,7 +23,8 @@ use Rattle.script.specs.Bytes.{signedBy, signed32}
 use Rattle.script.specs.declared.Row.{Row}
 use Rattle.script.specs.KindRows.{rowAt}
 use Rattle.script.specs.Words.{wordValue, wordKind, wordA, wordB, wordC}
-use Rattle.residual.specs.Cells.{constant, sortOf, two, codeBy, codeStep, codeAt, codeBelow, pieceBy, rowPieces, spendBy, spendLeaf, spend, spendAll, spendOne, pieces, roomOf, Spends, SpendsUnder, SpendsAll}
+use Rattle.residual.specs.Cells.{constant, sortOf, two, codeBy, codeStep, codeAt, codeBelow, pieceBy, rowPieces, pieces}
+use Rattle.residual.specs.Cells.{spendBy, spendLeaf, spend, spendAll, spendOne, roomOf, Spends, SpendsUnder, SpendsAll}
 use Rattle.residual.proofs.Rows.{by-piece, HasRow, ByRow, kind-row}
 
 pub past-operators : (f : ℕ) → 6 ≤ f → 0 ≡ operatorNumber (operatorOf f)
@@ -226,7 +227,8 @@ kind-flat (suc (suc (suc (suc (suc (suc (suc zero))))))) self x o f = all-flat (
 kind-flat (suc (suc (suc (suc (suc (suc (suc (suc zero)))))))) self x o f = all-flat (self (wordC x)) nilC o
 kind-flat (suc (suc (suc (suc (suc (suc (suc (suc (suc zero))))))))) self x o f = all-flat (self (wordA x)) (consC (self (wordB x)) nilC) o
 kind-flat (suc (suc (suc (suc (suc (suc (suc (suc (suc (suc zero)))))))))) self x o f = all-flat (self (wordA x)) nilC o
-kind-flat (suc (suc (suc (suc (suc (suc (suc (suc (suc (suc (suc zero))))))))))) self x o f = all-flat (self (wordA x)) (two (self (wordB x)) (self (wordC x))) o
+kind-flat (suc (suc (suc (suc (suc (suc (suc (suc (suc (suc (suc zero))))))))))) self x o f =
+    all-flat (self (wordA x)) (two (self (wordB x)) (self (wordC x))) o
 kind-flat (suc (suc (suc (suc (suc (suc (suc (suc (suc (suc (suc (suc zero)))))))))))) self x o f = all-flat (self (wordA x)) (consC (self (wordB x)) nilC) o
 kind-flat (suc (suc (suc (suc (suc (suc (suc (suc (suc (suc (suc (suc (suc k))))))))))))) self x o f = all-flat (ref 0) nilC o
 
@@ -250,7 +252,10 @@ module _ {xs : List ℕ} {p q room low : ℕ} where
     unfolding roomOf
     spends-flat {x} {k} s g z =
         record {
-          left = sym (code-spent (codeBelow xs p q) room low ∙ rw (z, below-there xs p q l, by-kind s refl) (kind-flat k (codeBelow xs q) x (roomOf (room - 1)) g));
+          left =
+              sym
+              (code-spent (codeBelow xs p q) room low
+              ∙ rw (z, below-there xs p q l, by-kind s refl) (kind-flat k (codeBelow xs q) x (roomOf (room - 1)) g));
         }
 
     pub spends-under : {r : ℕ} → (low ≡ 0 → ⊥) → SpendsUnder xs q (room - 1) (low - 1) r → Spends xs p q room low r
@@ -275,7 +280,9 @@ pub all-plain : {cs : Codes} {room low : ℕ} → cs ≡ nilC → SpendsAll cs r
 unfolding spend
 all-plain e = rw e (record { left = refl })
 
-pub child-left : {v : Use} (c : Code) {room low r : ℕ} → v ≡ Child → SpendsAll (pieceBy v c nilC) room low r → roomOf r ≡ spendOne c (roomOf room) (low + 1)
+pub child-left :
+    {v : Use} (c : Code) {room low r : ℕ} → v ≡ Child → SpendsAll (pieceBy v c nilC) room low r →
+    roomOf r ≡ spendOne c (roomOf room) (low + 1)
 unfolding pieceBy
 child-left c e s = rw e at (s .left)
 

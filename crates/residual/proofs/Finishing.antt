@@ -93,8 +93,10 @@ module _ (s : Script) (g : ℕ → ℕ) (count : ℕ) (i : s .inputs ≡ numbere
       (put-both (put-same (ap (records inputBytes) (sym i)) q) (omega (arith, records-length inputLayout (s .inputs), inputs-count)) r)
 
   -- the nodes have room where the file has
-  pub nodes-room : {l j k : List ℕ} {base r : ℕ} → fileLength 0 count n ≤ length l → Put l 0 (headRow 0 count n) j →
-      Put j (inputOffset 0 0) (records inputBytes (numbered g 0 count)) k → base ≡ nodeOffset 0 count 0 → r ≡ top 0 c → base + 13 * r + 13 ≤ length k
+  pub nodes-room :
+      {l j k : List ℕ} {base r : ℕ} → fileLength 0 count n ≤ length l → Put l 0 (headRow 0 count n) j →
+      Put j (inputOffset 0 0) (records inputBytes (numbered g 0 count)) k → base ≡ nodeOffset 0 count 0 → r ≡ top 0 c →
+      base + 13 * r + 13 ≤ length k
   unfolding fileLength nodeOffset
   nodes-room h p q b t = omega (arith, h, top-count c e t, put-length p, put-length q)
 

@@ -9,7 +9,7 @@ use Rattle.lambdamix.specs.declared.Use.{Use}
 use Rattle.lambdamix.proofs.Use.{the-type}
 use Rattle.lambdamix.specs.declared.Use.the-variants.{Nothing, Name, Binder, Child, ParameterType, Operation}
 use Rattle.lambdamix.specs.Script.{rows}
-use Rattle.lambdamix.specs.Code.{Code, Codes, nilC, consC, formNode, top, after, tops, nodesFrom, allNodesFrom}
+use Rattle.lambdamix.specs.Code.{Code, Codes, consC, formNode, top, after, tops, nodesFrom, allNodesFrom}
 use Rattle.script.specs.declared.Row.{Row}
 use Rattle.script.specs.Kinds.{usesTable, useOf}
 use Rattle.script.specs.KindRows.{rowAt}

@@ -18,7 +18,8 @@ use Rattle.residual.specs.Cells.{codeAt, codeBelow, rowPieces}
 use Rattle.residual.specs.Answers.{farthest, Emits, EmitsOver, rowNode}
 use Rattle.residual.proofs.Rows.{not-child, HasRow, ByRow, variable, function, application, fix, choice, operation}
 use Rattle.residual.proofs.CellLaws.{below-there, below-none, is-variable, is-row, is-constant}
-use Rattle.residual.proofs.Emission.{low-constant, emits-constant, emits-variable, emits-plain, child-low, emits-child, low-first, low-rest, emits-fields, emits-row, row-low}
+use Rattle.residual.proofs.Emission.{low-constant, emits-constant, emits-variable, emits-plain, child-low, emits-child}
+use Rattle.residual.proofs.Emission.{low-first, low-rest, emits-fields, emits-row, row-low}
 use Rattle.residual.proofs.emit.emit.Reads as emit
 use Rattle.residual.proofs.emit.emit.Kinds as emit-kinds
 use Rattle.residual.proofs.emit.+emit+emit_field+emit_piece+emit_row.Lts-emit as emit-lts
@@ -97,12 +98,8 @@ emit-calls t = (
 )
 
 abbrev emit-field-calls : ℕ → emit-field-lts.Claims
-emit-field-calls t = (
-  plain-field-reads.Asked,
-  plain-field-reads.Learnt,
-  emit-piece-below t,
-  emit-piece.Post,
-)
+emit-field-calls t =
+    (plain-field-reads.Asked, plain-field-reads.Learnt, emit-piece-below t, emit-piece.Post)
 
 abbrev emit-piece-calls : ℕ → emit-piece-lts.Claims
 emit-piece-calls t = (
@@ -138,25 +135,30 @@ emit-row-calls t = (
 -- ---- emit
 
 -- what is known of a cell with a row
-module _ (t : ℕ) (m : emit-lts.After-kind (emit-calls t) (emit-at t) emit.Post) {j : ℕ} {r : Row} (h : HasRow j) (g : m .kind .result ≡ j) (e : r ≡ rowAt j) where
-  abbrev a : emit-lts.Args (emit-calls t) (emit-at t) emit.Post (m .before .before .before .κs)
-  a = m .before .before .before .args
+module _
+    (t : ℕ) (m : emit-lts.After-kind (emit-calls t) (emit-at t) emit.Post) {j : ℕ} {r : Row} (h : HasRow j) (g : m .kind .result ≡ j)
+    (e : r ≡ rowAt j)
+  where
+    abbrev a : emit-lts.Args (emit-calls t) (emit-at t) emit.Post (m .before .before .before .κs)
+    a = m .before .before .before .args
 
-  by-row : ByRow (codeAt (a .codes .now) (a .p)) j r (codeBelow (a .codes .now) (a .p)) (a .x)
-  by-row = is-row (record { word = m .before .before .before .pre .1 .1 .1; kind = m .kind .ensures }) h g e
+    by-row : ByRow (codeAt (a .codes .now) (a .p)) j r (codeBelow (a .codes .now) (a .p)) (a .x)
+    by-row = is-row (record { word = m .before .before .before .pre .1 .1 .1; kind = m .kind .ensures }) h g e
 
-  row-requires :
-      (4 * a .p + 2 < t)
-      × (((a .base ≤ farthest) × (after (a .k .0) (rowPieces r (codeBelow (a .codes .now) (a .p)) (a .x)) < maxNodes)) × (a .p ≤ length (a .codes .now)))
-  row-requires =
-      let p = m .before .before .before .pre in
-      (omega (arith, p .0), ((p .1 .0 .0, row-low by-row (a .k .0) (p .1 .0 .1)), p .1 .1 .0))
+    row-requires :
+        (4 * a .p + 2 < t)
+        × (((a .base ≤ farthest) × (after (a .k .0) (rowPieces r (codeBelow (a .codes .now) (a .p)) (a .x)) < maxNodes))
+        × (a .p ≤ length (a .codes .now)))
+    row-requires =
+        let p = m .before .before .before .pre in
+        (omega (arith, p .0), ((p .1 .0 .0, row-low by-row (a .k .0) (p .1 .0 .1)), p .1 .1 .0))
 
-  row-emitted :
-      {n : ℕ} {out after′ : List ℕ} →
-      EmitsOver (rowPieces r (codeBelow (a .codes .now) (a .p)) (a .x)) (rowNode j r (codeBelow (a .codes .now) (a .p)) (a .x) (a .k .0)) (a .base) (a .k .0) out after′ n →
-      Emits (codeAt (a .codes .now) (a .p)) (a .base) (a .k .0) out after′ n
-  row-emitted = emits-row by-row (m .before .before .before .pre .1 .0 .1)
+    row-emitted :
+        {n : ℕ} {out after′ : List ℕ} →
+        EmitsOver (rowPieces r (codeBelow (a .codes .now) (a .p)) (a .x)) (rowNode j r (codeBelow (a .codes .now) (a .p)) (a .x) (a .k .0))
+        (a .base) (a .k .0) out after′ n →
+        Emits (codeAt (a .codes .now) (a .p)) (a .base) (a .k .0) out after′ n
+    row-emitted = emits-row by-row (m .before .before .before .pre .1 .0 .1)
 
 constant-requires : (t : ℕ) → emit-lts.Need-emit-constant-requires (emit-calls t) (emit-at t) emit.Post
 constant-requires t c κs =
@@ -211,7 +213,8 @@ piece-variable t c =
     let i = m .before .before .before in
     let s = i .before .before .before in
     let a = s .args in
-    emits-variable (below-there (a .codes .now) (a .p) (a .q) (i .if1 .left) ∙ is-variable (record { word = refl; kind = m .before .kind .ensures }) (m .if2 .taken) .code)
+    let k = is-variable (record { word = refl; kind = m .before .kind .ensures }) (m .if2 .taken) in
+    emits-variable (below-there (a .codes .now) (a .p) (a .q) (i .if1 .left) ∙ k .code)
     (c .before .before .before .before .name-a .ensures) (s .pre .1 .0 .1) (c .before .before .emit-node .ensures)
 
 piece-emit : (t : ℕ) → emit-piece-lts.Need-emit-requires (emit-piece-calls t) (emit-piece-at t) emit-piece.Post
@@ -220,7 +223,8 @@ piece-emit t c κs =
     let s = i .before .before .before in
     let a = s .args in
     let p = s .pre in
-    (omega (arith, p .0, i .if1 .left), ((p .1 .0 .0, rw (below-there (a .codes .now) (a .p) (a .q) (i .if1 .left)) at (p .1 .0 .1)), (omega (arith, p .1 .1, i .if1 .left), refl)))
+    let low = rw (below-there (a .codes .now) (a .p) (a .q) (i .if1 .left)) at (p .1 .0 .1) in
+    (omega (arith, p .0, i .if1 .left), ((p .1 .0 .0, low), (omega (arith, p .1 .1, i .if1 .left), refl)))
 
 piece-code : (t : ℕ) → emit-piece-lts.Need-returns-3 (emit-piece-calls t) (emit-piece-at t) emit-piece.Post
 piece-code t c =
@@ -243,17 +247,9 @@ second-requires t c κs =
     let s = first .before .before .before .before .before in
     let a = s .args in
     let self = codeBelow (a .codes .now) (a .p) in
-    let p = s .pre in (
-      omega (arith, p .0),
-      (
-        (
-          p .1 .0 .0,
-          low-first self (a .row .1) _ (c .before .field-b .ensures) _
-              (low-rest self (a .row .0) _ (first .before .before .field-a .ensures) _ (p .1 .0 .1) (first .emit-field .ensures .pieces .next)),
-        ),
-        p .1 .1,
-      ),
-    )
+    let p = s .pre in
+    let rest = low-rest self (a .row .0) _ (first .before .before .field-a .ensures) _ (p .1 .0 .1) (first .emit-field .ensures .pieces .next) in
+    (omega (arith, p .0), ((p .1 .0 .0, low-first self (a .row .1) _ (c .before .field-b .ensures) _ rest), p .1 .1))
 
 third-requires : (t : ℕ) → emit-row-lts.Need-emit-field-requires-3 (emit-row-calls t) (emit-row-at t) emit-row.Post
 third-requires t c κs =
@@ -262,18 +258,16 @@ third-requires t c κs =
     let s = first .before .before .before .before .before in
     let a = s .args in
     let self = codeBelow (a .codes .now) (a .p) in
-    let p = s .pre in (
-      omega (arith, p .0),
-      (
-        (
-          p .1 .0 .0,
-          low-first self (a .row .2) _ (c .before .field-c .ensures) _
-              (low-rest self (a .row .1) _ (second .before .before .field-b .ensures) _
-              (low-rest self (a .row .0) _ (first .before .before .field-a .ensures) _ (p .1 .0 .1) (first .emit-field .ensures .pieces .next)) (second .emit-field2 .ensures .pieces .next)),
-        ),
-        p .1 .1,
-      ),
-    )
+    let p = s .pre in
+    let rest = low-rest self (a .row .0) _ (first .before .before .field-a .ensures) _ (p .1 .0 .1) (first .emit-field .ensures .pieces .next) in
+    let last = low-rest self (a .row .1) _ (second .before .before .field-b .ensures) _ rest (second .emit-field2 .ensures .pieces .next) in
+    (omega (arith, p .0), ((p .1 .0 .0, low-first self (a .row .2) _ (c .before .field-c .ensures) _ last), p .1 .1))
+
+node-requires : (t : ℕ) → emit-row-lts.Need-emit-node-requires (emit-row-calls t) (emit-row-at t) emit-row.Post
+node-requires t c κs =
+    let third = c .before .before .before in
+    let first = third .before .before .before .before .before .before .before .before .before .before in
+    first .before .before .before .before .before .pre .1 .0 .0
 
 row-returns : (t : ℕ) → emit-row-lts.Need-returns (emit-row-calls t) (emit-row-at t) emit-row.Post
 row-returns t c =
@@ -281,7 +275,8 @@ row-returns t c =
     let second = third .before .before .before .before .before in
     let first = second .before .before .before .before .before in
     let a = first .before .before .before .before .before .args in
-    emits-fields (codeBelow (a .codes .now) (a .p)) (a .kind) (a .x) (a .row) (first .before .before .field-a .ensures) (second .before .before .field-b .ensures) (third .before .before .field-c .ensures)
+    emits-fields (codeBelow (a .codes .now) (a .p)) (a .kind) (a .x) (a .row) (first .before .before .field-a .ensures)
+    (second .before .before .field-b .ensures) (third .before .before .field-c .ensures)
     (first .emit-field .ensures) (second .emit-field2 .ensures) (third .emit-field3 .ensures) (c .before .before .before .emit-node .ensures)
 
 pub +emit+emit-field+emit-piece+emit-row-spec : {M : Type 1} → statement M
@@ -362,6 +357,6 @@ pub +emit+emit-field+emit-piece+emit-row-spec : {M : Type 1} → statement M
     (second-requires t)
     (λ c κs. tt)
     (third-requires t)
-    (λ c κs. c .before .before .before .before .before .before .before .before .before .before .before .before .before .before .before .before .before .before .pre .1 .0 .0)
+    (node-requires t)
     (λ c. search needs)
     (row-returns t)

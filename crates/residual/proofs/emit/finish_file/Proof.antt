@@ -15,30 +15,34 @@ returns : tie.Need-returns
 returns c =
     let a = c .before .before .before .before .before .args in
     let p = c .before .before .before .before .before .pre in
-    λ x k i. finish-short x (inputsIn (a .inputs .now)) (a .count) i (codeAt (a .codes .now) (a .p)) (p .0) k (p .1) (omega (arith, c .if1 .taken, c .before .file-size .ensures))
+    λ x k i.
+    finish-short x (inputsIn (a .inputs .now)) (a .count) i (codeAt (a .codes .now) (a .p)) (p .0) k (p .1)
+    (omega (arith, c .if1 .taken, c .before .file-size .ensures))
 
 emit-root-requires : tie.Need-emit-root-requires
 unfolding nodeOffset
 emit-root-requires c κs =
-    let a = c .before .before .before .before .before .before .before .before .before .before .before .before .before .before .before .args in
-    let p = c .before .before .before .before .before .before .before .before .before .before .before .before .before .before .before .pre in
-    let d = codeAt (a .codes .now) (a .p) in
-    (omega (arith, c .before .before .before .before .before .before .before .before .before .before .before .before .before .before .before .fits .count, c .node-offset .ensures), top-low d (p .0) (fits-small d (p .0) (p .1)))
+    let i = c .before .before .before .before .before .before .before .before .before .before in
+    let s = i .before .before .before .before .before in
+    let d = codeAt (s .args .codes .now) (s .args .p) in
+    (omega (arith, s .fits .count, c .node-offset .ensures), top-low d (s .pre .0) (fits-small d (s .pre .0) (s .pre .1)))
 
 returns-2 : tie.Need-returns-2
 returns-2 c =
-    let a = c .before .before .before .before .before .before .before .before .before .before .before .before .before .before .before .before .before .before .args in
-    let p = c .before .before .before .before .before .before .before .before .before .before .before .before .before .before .before .before .before .before .pre in
+    let i = c .before .before .before .before .before .before .before .before .before .before .before .before .before in
+    let s = i .before .before .before .before .before in
+    let a = s .args in
+    let p = s .pre in
     let d = codeAt (a .codes .now) (a .p) in
     let g = inputsIn (a .inputs .now) in
     let h = c .before .before .before .before .before .before .before .before .before .before .before .head-at .ensures in
-    let i = c .before .before .before .before .before .before .before .inputs-at .ensures in
+    let j = c .before .before .before .before .before .before .before .inputs-at .ensures in
     let b = c .before .before .before .node-offset .ensures in
     let n = c .before .before .emit-root .ensures in
+    let room : fileLength 0 (a .count) (a .nodes) ≤ length (a .out .now) = omega (arith, i .if1 .left, i .before .file-size .ensures) in
     λ x k f.
-    let room : fileLength 0 (a .count) (a .nodes) ≤ length (a .out .now) = omega (arith, c .before .before .before .before .before .before .before .before .before .before .before .before .before .if1 .left, c .before .before .before .before .before .before .before .before .before .before .before .before .before .before .file-size .ensures) in
     finish-written x g (a .count) f d (p .0) k (p .1) room
-    (put-written x g (a .count) f d (p .0) h i b (n .put (nodes-room x g (a .count) f d (p .0) room h i b (n .number))))
+    (put-written x g (a .count) f d (p .0) h j b (n .put (nodes-room x g (a .count) f d (p .0) room h j b (n .number))))
 
 pub finish-file-spec : {M : Type 1} → statement M
 finish-file-spec =

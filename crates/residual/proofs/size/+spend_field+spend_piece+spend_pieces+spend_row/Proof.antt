@@ -10,7 +10,8 @@ use Rattle.script.specs.declared.Row.{Row}
 use Rattle.script.specs.KindRows.{rowAt}
 use Rattle.residual.specs.Cells.{codeBelow, pieceBy, rowPieces, SpendsAll, SpendsUnder}
 use Rattle.residual.proofs.Rows.{not-child, plain, HasRow, variable, function, application, fix, choice, operation}
-use Rattle.residual.proofs.CellLaws.{is-row, is-constant, spends-none, spends-lift, spends-variable, spends-flat, spends-under, under-code, under-row, all-node, all-plain, child-left, all-child, all-again, all-more}
+use Rattle.residual.proofs.CellLaws.{is-row, is-constant, spends-none, spends-lift, spends-variable, spends-flat, spends-under}
+use Rattle.residual.proofs.CellLaws.{under-code, under-row, all-node, all-plain, child-left, all-child, all-again, all-more}
 use Rattle.residual.proofs.Spending.{no-more}
 use Rattle.residual.proofs.size.spend_field.Reads as spend-field
 use Rattle.residual.proofs.size.spend_field.Kinds as spend-field-kinds
@@ -74,24 +75,12 @@ spend-row-below t = and 1 spend-row-kinds.ps (falls 1 spend-row-kinds.ps _<_ μ-
 
 -- the readings of what each calls
 abbrev spend-field-calls : ℕ → spend-field-lts.Claims
-spend-field-calls t = (
-  same-piece-reads.Asked,
-  same-piece-reads.Learnt,
-  spend-again-reads.Asked,
-  spend-again-reads.Learnt,
-  spend-piece-below t,
-  spend-piece.Post,
-)
+spend-field-calls t =
+    (same-piece-reads.Asked, same-piece-reads.Learnt, spend-again-reads.Asked, spend-again-reads.Learnt, spend-piece-below t, spend-piece.Post)
 
 abbrev spend-piece-calls : ℕ → spend-piece-lts.Claims
-spend-piece-calls t = (
-  spend-node-reads.Asked,
-  spend-node-reads.Learnt,
-  kind-reads.Asked,
-  kind-reads.Learnt,
-  spend-pieces-below t,
-  spend-pieces.Post,
-)
+spend-piece-calls t =
+    (spend-node-reads.Asked, spend-node-reads.Learnt, kind-reads.Asked, kind-reads.Learnt, spend-pieces-below t, spend-pieces.Post)
 
 abbrev spend-pieces-calls : ℕ → spend-pieces-lts.Claims
 spend-pieces-calls t = (
@@ -131,7 +120,8 @@ again-returns : (t : ℕ) → spend-field-lts.Need-returns-2 (spend-field-calls 
 again-returns t c =
     let s = c .before .before .before .before .before .before in
     let same = c .before .before .same-piece .ensures (c .before .if1 .taken) in
-    all-again (c .before .before .before .enum-told .given .1) (codeBelow (s .args .codes .now) (s .args .p)) (same .0) (same .1) (s .pre .1 .1) (c .spend-again .ensures)
+    all-again (c .before .before .before .enum-told .given .1) (codeBelow (s .args .codes .now) (s .args .p)) (same .0) (same .1)
+    (s .pre .1 .1) (c .spend-again .ensures)
 
 child-returns : (t : ℕ) → spend-field-lts.Need-returns-3 (spend-field-calls t) (spend-field-at t) spend-field.Post
 child-returns t c = all-child (c .before .before .before .enum-told .given .1) (c .spend-piece .ensures)
@@ -151,7 +141,9 @@ leaf-returns : (t : ℕ) → spend-piece-lts.Need-returns-3 (spend-piece-calls t
 leaf-returns t c = spends-variable (c .before .before .before .if2 .left) (record { word = refl; kind = c .before .kind .ensures }) (c .if3 .taken)
 
 flat-returns : (t : ℕ) → spend-piece-lts.Need-returns-4 (spend-piece-calls t) (spend-piece-at t) spend-piece.Post
-flat-returns t c = spends-flat (c .before .before .before .before .if2 .left) (record { word = refl; kind = c .before .before .kind .ensures }) (c .before .if3 .left) (c .if4 .taken)
+flat-returns t c =
+    spends-flat (c .before .before .before .before .if2 .left) (record { word = refl; kind = c .before .before .kind .ensures })
+    (c .before .if3 .left) (c .if4 .taken)
 
 pieces-requires : (t : ℕ) → spend-piece-lts.Need-spend-pieces-requires (spend-piece-calls t) (spend-piece-at t) spend-piece.Post
 pieces-requires t c κs =
@@ -176,7 +168,8 @@ row-spent t m h g e = under-row (is-row (record { word = m .before .before .pre 
 constant-returns : (t : ℕ) → spend-pieces-lts.Need-returns-7 (spend-pieces-calls t) (spend-pieces-at t) spend-pieces.Post
 constant-returns t c =
     let m = c .before in
-    under-code (is-constant (record { word = m .before .before .before .pre .1 .1; kind = m .before .kind .ensures }) (m .match .rest)) (all-node (c .spend-node .ensures))
+    under-code (is-constant (record { word = m .before .before .before .pre .1 .1; kind = m .before .kind .ensures }) (m .match .rest))
+    (all-node (c .spend-node .ensures))
 
 -- ---- spend_row
 
