@@ -10,7 +10,8 @@ returns : tie.Need-returns
 unfolding ascii
 returns c =
     let s = c .before .before .before .before .before .before .before in
-    counts-placed _ _ (omega (arith, s .fits .steps)) (omega (arith, s .fits .nodes)) (cc) (cc) (c .before .before .print-pair .ensures)
+    counts-placed _ _ (omega (arith, s .fits .steps)) (omega (arith, s .fits .nodes)) (search needs) (search needs)
+    (c .before .before .print-pair .ensures)
 
 pub print-counts-spec : {M : Type 1} → statement M
 print-counts-spec =

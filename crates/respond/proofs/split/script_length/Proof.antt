@@ -1,5 +1,6 @@
 -- `respond::split::script_length` meets its contract: three tests of the head. Assumes nothing.
 use mathlib.Core.Path.{refl, sym, _∙_}
+use native.Mathlib.Omega.{arith}
 use borrow.Author.Tests.{le-leb, lt-leb}
 use Rattle.file.proofs.HeadLaws.{counts-told, length-told}
 use Rattle.respond.specs.Response.{scriptLengthBy}
@@ -15,7 +16,7 @@ returns-2 : tie.Need-returns-2
 unfolding scriptLengthBy
 returns-2 c =
     let n = c .before .before .before .head-counts .ensures in
-    length-told _ n (same-size (c .file-size .ensures) (cc) (cc) (cc))
+    length-told _ n (same-size (c .file-size .ensures) (omega arith) (omega arith) (omega arith))
     ∙ length-by _ (le-leb _ _ (c .before .before .before .before .before .before .if1 .left))
     (sym (c .before .before .before .before .before .marked .ensures) ∙ c .before .before .before .before .if2 .taken)
     (counts-told _ n (c .before .before .counts-right .ensures) (c .before .if3 .taken))
