@@ -99,6 +99,7 @@ module _ {s : Script} {words ts : List ℕ} (lent : Lent s words ts) (i : ℕ) (
 
 -- ---- the fault among the answers at a node's fields, by those that are children
 
+-- the answers at two fields that are no children
 neutral : typeBase ≤ lowest (typeAnswer 1) (typeAnswer 1)
 unfolding lowest
 neutral = omega arith
@@ -143,6 +144,11 @@ module _ {s : Script} {Γ : Context} where
     told-gather (told-both (told p) (told-gather (told-both (told q) (told-gather (told-alone (told r) _))))),
   )
 
+told-late :
+    {s : Script} {Γ : Context} {y e f g : ℕ} {ts : Terms} → Stand s (bind y (typeOf s 1) Γ) (false ∷ false ∷ true ∷ []) (e ∷ f ∷ g ∷ []) ts →
+    Told (lowest e (lowest f g)) (check s (bind y D Γ) (childAt ts 0))
+told-late {s} st = rw (← type-one s) (told-last st)
+
 -- a fault goes before the rule of each row
 module _ (s : Script) (Γ : Context) (i : ℕ) (nd : Node) (e f g : ℕ) (ts : Terms) (l : lowest e (lowest f g) < typeBase) where
   abbrev FaultFirst : Row → Type 0
@@ -150,54 +156,33 @@ module _ (s : Script) (Γ : Context) (i : ℕ) (nd : Node) (e f g : ℕ) (ts : T
       Stand s (inside s Γ (r .uses) nd) (places (r .uses)) (e ∷ f ∷ g ∷ []) ts →
       Stands s (lowest e (lowest f g)) (check s Γ (build (r .step) i nd ts))
 
-  leaf : FaultFirst blankRow
-  leaf st = absurd (no-fault st l)
+  no-row : All FaultFirst []
+  unfolding All
+  no-row = tt
+
+  and-row : (r : Row) (rs : List Row) → FaultFirst r → All FaultFirst rs → All FaultFirst (r ∷ rs)
+  unfolding All
+  and-row r rs p q = (p, q)
 
   fault-rows : All FaultFirst rows
-  unfolding All rows build check arity
-  fault-rows = (
-    λ st. absurd (no-fault st l),
-    (
-      λ st. absurd (no-fault st l),
-      (
-        λ st. told-rule s i _ (told-one st .0) l,
-        (
-          λ st. told-rule s i _ (told-last st) l,
-          (
-            λ st. told-rule s i _ (told-two st .0) l,
-            (
-              λ st. told-rule s i _ (told-one st .0) l,
-              (
-                λ st. told-rule s i _ (told-three st .0) l,
-                (
-                  λ st. told-rule s i _ (told-two st .0) l,
-                  (
-                    λ st. told-rule s i _ (rw (type-one s) at (told-last st)) l,
-                    (
-                      λ st. told-rule s i _ (told-two st .1) l,
-                      (
-                        λ st. told-rule s i _ (told-one st .1) l,
-                        (
-                          λ st. told-rule s i _ (told-three st .1) l,
-                          (
-                            λ st. told-rule s i _ (told-two st .1) l,
-                            tt,
-                          ),
-                        ),
-                      ),
-                    ),
-                  ),
-                ),
-              ),
-            ),
-          ),
-        ),
-      ),
-    ),
-  )
+  unfolding rows build check arity
+  fault-rows =
+      and-row _ _ (λ st. absurd (no-fault st l))
+      (and-row _ _ (λ st. absurd (no-fault st l))
+      (and-row _ _ (λ st. told-rule s i _ (told-one st .0) l)
+      (and-row _ _ (λ st. told-rule s i _ (told-last st) l)
+      (and-row _ _ (λ st. told-rule s i _ (told-two st .0) l)
+      (and-row _ _ (λ st. told-rule s i _ (told-one st .0) l)
+      (and-row _ _ (λ st. told-rule s i _ (told-three st .0) l)
+      (and-row _ _ (λ st. told-rule s i _ (told-two st .0) l)
+      (and-row _ _ (λ st. told-rule s i _ (told-late st) l)
+      (and-row _ _ (λ st. told-rule s i _ (told-two st .1) l)
+      (and-row _ _ (λ st. told-rule s i _ (told-one st .1) l)
+      (and-row _ _ (λ st. told-rule s i _ (told-three st .1) l)
+      (and-row _ _ (λ st. told-rule s i _ (told-two st .1) l) no-row))))))))))))
 
   fault-first : (k : ℕ) → FaultFirst (getD rows k blankRow)
-  fault-first k = at-all FaultFirst blankRow rows leaf fault-rows k
+  fault-first k = at-all FaultFirst blankRow rows (λ st. absurd (no-fault st l)) fault-rows k
 
 -- ---- the types of a node's children
 
@@ -260,6 +245,7 @@ module _ {s : Script} (ok : Sound s) {Γ : Context} where
       (typeOf s (typeIn e) ∷ us, rw (typed-answer p (l .0), c), rw (same-dynamic s ok (typeIn e) (p .known (l .0)), d))
   late-types (other-then st) l = late-types st (l .1)
 
+-- the late kinds
 data Late : ℕ → Type 0 where
   late-function : Late 8
   late-application : Late 9
