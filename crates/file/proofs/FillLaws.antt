@@ -1,20 +1,21 @@
--- Tables that were filled from a file hold the file's script, and a script's tables hold the script; which tables can be filled.
--- Assumes nothing.
+-- Tables that were filled from a file hold the file's script, and a script's tables hold the script; they stay long enough; which tables can be
+-- filled. Assumes nothing.
 use Prim.Native.Nat.{ℕ, _+_, _*_, _<_}
 use mathlib.Core.Path.{_≡_, refl, sym, ap, _∙_}
 use mathlib.Core.Bool.{true}
-use mathlib.Core.List.{List, map}
+use mathlib.Core.List.{List, _++_, map}
 use native.Mathlib.Omega.{arith}
 use lib.IntN.{ℤ}
-use lib.ListN.{length, getD, drop, length-map, List·getD-append, List·getD-map}
-use borrow.Author.Tests.{leb-true}
+use lib.ListN.{length, getD, drop, length-append, length-drop, length-map, List·getD-append, List·getD-map}
+use lib.Dec.{leb}
+use borrow.Author.Tests.{le-leb, leb-true}
 use Rattle.lambdamix.specs.Script.{Script, FunctionType, Node, blankNode}
 use Rattle.lambdamix.specs.Types.{blankType}
-use Rattle.lambdamix.proofs.Tests.{and-both}
+use Rattle.lambdamix.proofs.Tests.{and-intro, and-both}
 use Rattle.script.specs.declared.Counts.{Counts}
 use Rattle.script.specs.Bytes.{byteAt, word16, word32, signed32}
 use Rattle.script.specs.File.{numbered, typeOffset, inputOffset, nodeOffset, typeFrom, inputFrom, nodeFrom, headTypes, headInputs, headNodes, scriptIn}
-use Rattle.script.specs.Tables.{Tables, rowType, rowInput, rowNode, tablesScript, over, filled, tablesOf}
+use Rattle.script.specs.Tables.{Tables, rowType, rowInput, rowNode, tablesScript, longEnough, over, filled, tablesOf}
 use Rattle.script.specs.Columns.{enough}
 use Rattle.script.specs.Replies.{headCounts}
 use Rattle.file.specs.Heads.{scriptBy, FillFits, noCounts}
@@ -78,6 +79,29 @@ file-held bs x =
       length-numbered (λ j. nodeFrom bs (nodeOffset (headTypes bs) (headInputs bs) j)) 0 (headNodes bs),
     ) at
     (script-held (scriptIn bs) x)
+
+-- ---- columns that are filled stay as long as they were
+
+still-long : {A : Type 0} (k : ℕ) (new old : List A) → leb k (length old) ≡ true → leb k (length (over new old)) ≡ true
+unfolding over
+still-long k new old e =
+    le-leb k (length (new ++ drop (length new) old)) (simp (length-append, length-drop) (omega (arith, leb-true k (length old) e)))
+
+-- Tables that are long enough for counts are so when they are filled.
+pub filled-long : (t i n : ℕ) (s : Script) (x : Tables) → longEnough t i n x ≡ true → longEnough t i n (filled s x) ≡ true
+unfolding longEnough enough filled
+filled-long t i n s x e =
+    let (types, rest) = and-both _ _ e in
+    let (inputs, nodes) = and-both _ _ rest in
+    let (two, three) = and-both _ _ nodes in
+    let (ps, rs) = and-both _ _ types in
+    let (ks, xs) = and-both _ _ two in
+    let (ys, others) = and-both _ _ three in
+    let (zs, vs) = and-both _ _ others in
+    and-intro (and-intro (still-long t _ (x .parameters) ps) (still-long t _ (x .results) rs))
+    (and-intro (still-long i _ (x .inputs) inputs)
+    (and-intro (and-intro (still-long n _ (x .kinds) ks) (still-long n _ (x .a) xs))
+    (and-intro (still-long n _ (x .b) ys) (and-intro (still-long n _ (x .c) zs) (still-long n _ (x .values) vs)))))
 
 -- ---- eight columns, each filled from a file, are the tables filled with its script
 

@@ -2,19 +2,15 @@
 use Prim.Native.Nat.{ℕ, _-_, _≤_, min}
 use mathlib.Core.Path.{_≡_, refl, sym, ap, _∙_, subst}
 use mathlib.Core.Bool.{true}
-use mathlib.Core.List.{List, _++_, map}
+use mathlib.Core.List.{List}
 use mathlib.Core.Option.{none, some}
 use native.Mathlib.Omega.{arith}
-use lib.ListN.{length, take, drop, length-append, length-drop, length-map}
-use lib.Dec.{leb}
-use borrow.Author.Tests.{le-leb, leb-true}
+use lib.ListN.{length, take, drop, length-append}
 use Rattle.lambdamix.specs.Limits.{maxTypes, maxInputs, maxNodes, maxBytes}
-use Rattle.lambdamix.specs.Script.{Script, FunctionType, Node, nodeCount}
+use Rattle.lambdamix.specs.Script.{nodeCount}
 use Rattle.lambdamix.specs.Checker.{Refusal}
 use Rattle.lambdamix.specs.Structure.{orElse, refusedUnless}
 use Rattle.lambdamix.specs.Listing.{listing}
-use Rattle.lambdamix.proofs.Tests.{and-both, and-intro}
-use Rattle.script.specs.Columns.{enough}
 use Rattle.script.specs.declared.Counts.{Counts}
 use Rattle.script.specs.declared.Refusal as Told
 use Rattle.script.specs.declared.Reading.{Reading}
@@ -22,11 +18,11 @@ use Rattle.script.specs.declared.Reading.the-variants as Reading
 use Rattle.script.specs.File.{fileLength, headTypes, headInputs, headNodes, scriptIn}
 use Rattle.script.specs.Refusals.{fileRefusal}
 use Rattle.file.specs.Encodable.{AllBytes}
-use Rattle.script.specs.Tables.{Tables, over, filled, longEnough, readRefusal, readTables}
+use Rattle.script.specs.Tables.{Tables, filled, longEnough, readRefusal, readTables}
 use Rattle.script.specs.Replies.{headCounts, reading, Reads}
 use Rattle.script.proofs.ReplyLaws.{read-answer}
 use Rattle.script.proofs.Sound.{in-limits}
-use Rattle.file.proofs.FillLaws.{file-held}
+use Rattle.file.proofs.FillLaws.{file-held, filled-long}
 use Rattle.file.proofs.FileLaws.{read-fits, script-counts, script-passes}
 use Rattle.printer.specs.Answers.{tablesText}
 use Rattle.printer.proofs.Writing.{join}
@@ -34,41 +30,6 @@ use Rattle.printer.proofs.ListingBound.{listing-bytes}
 use Rattle.respond.specs.Stages.{linesBytes, listingBytes, CountsPlaced, ListsAt, ListsReading, ListsFile, PrintsMade, Held}
 use Rattle.respond.proofs.Files.{file-counts, long-for, held-passes}
 use Rattle.respond.proofs.Splitting.{front-part}
-
--- ---- columns that are filled stay as long as they are
-
-still-long :
-    {A : Type 0} (k : ℕ) (new old : List A) → length new ≤ k → leb k (length old) ≡ true → leb k (length (over new old)) ≡ true
-unfolding over
-still-long k new old h e =
-    le-leb k (length (new ++ drop (length new) old)) (simp (length-append, length-drop) (omega (arith, leb-true k (length old) e)))
-
-filled-long :
-    (s : Script) (x : Tables) → length (s .types) ≤ maxTypes → length (s .inputs) ≤ maxInputs → length (s .nodes) ≤ maxNodes →
-    longEnough maxTypes maxInputs maxNodes x ≡ true → longEnough maxTypes maxInputs maxNodes (filled s x) ≡ true
-unfolding longEnough enough filled
-filled-long s x t i n e =
-    let (types, rest) = and-both _ _ e in
-    let (inputs, nodes) = and-both _ _ rest in
-    let (two, three) = and-both _ _ nodes in
-    let (ps, rs) = and-both _ _ types in
-    let (ks, xs) = and-both _ _ two in
-    let (ys, others) = and-both _ _ three in
-    let (zs, vs) = and-both _ _ others in
-    and-intro
-    (and-intro (typed (λ (u : FunctionType). u .parameter) (x .parameters) ps) (typed (λ (u : FunctionType). u .result) (x .results) rs))
-    (and-intro (still-long maxInputs (s .inputs) (x .inputs) i inputs)
-    (and-intro (and-intro (noded (λ (d : Node). d .kind) (x .kinds) ks) (noded (λ (d : Node). d .a) (x .a) xs))
-    (and-intro (noded (λ (d : Node). d .b) (x .b) ys)
-    (and-intro (noded (λ (d : Node). d .c) (x .c) zs) (noded (λ (d : Node). d .value) (x .values) vs)))))
-  where
-    typed : (f : FunctionType → ℕ) (old : List ℕ) → leb maxTypes (length old) ≡ true → leb maxTypes (length (over (map f (s .types)) old)) ≡ true
-    typed f old h = still-long maxTypes (map f (s .types)) old (omega (arith, length-map (s .types) f)) h
-
-    noded :
-        {A : Type 0} (f : Node → A) (old : List A) → leb maxNodes (length old) ≡ true →
-        leb maxNodes (length (over (map f (s .nodes)) old)) ≡ true
-    noded f old h = still-long maxNodes (map f (s .nodes)) old (omega (arith, length-map (s .nodes) f)) h
 
 -- ---- the reader's answer, where the tables are long enough for every file
 
@@ -96,17 +57,12 @@ module _ {bs : List ℕ} {x y : Tables} {r : Reading} (room : longEnough maxType
   unfolding readTables headCounts
   held all e =
       let tables : y ≡ filled (scriptIn bs) x = rw (not-short e) at (reads .tables) in
-      let c = script-counts bs in
-      let l = in-limits (headTypes bs) (headInputs bs) (headNodes bs) (file-counts bs e) in
       record {
         bytes = all;
         read = e;
         counts = refl;
         script = rw tables (file-held bs x);
-        room =
-            rw tables
-            (filled-long (scriptIn bs) x (omega (arith, c .0, l .types)) (omega (arith, c .1, l .inputs)) (omega (arith, c .2, l .nodes))
-            room);
+        room = rw tables (filled-long maxTypes maxInputs maxNodes (scriptIn bs) x room);
       }
 
 -- ---- the listing of a file
