@@ -12,10 +12,11 @@ use Rattle.lambdamix.specs.Script.{Script, rows, blankRow, nodeAt, nodeCount, f
 use Rattle.lambdamix.specs.Term.{terms, tree, height, heights}
 use Rattle.lambdamix.specs.Types.{typeOf, typeCount}
 use Rattle.lambdamix.specs.Typing.{Context, bind}
+use Rattle.script.specs.Kinds.{isBinder, isChild}
 use Rattle.script.specs.declared.Row.{Row}
 use Rattle.script.specs.KindRows.{rowAt}
 use Rattle.script.specs.Words.{wordKind, wordA, wordB, wordC}
-use Rattle.tables.specs.Walks.{isBinder, isChild, keptIf, Kept}
+use Rattle.tables.specs.Walks.{keptIf, Kept, rowChildren}
 use Rattle.tables.proofs.TreeForms.{All, kept-fields}
 use Rattle.tables.proofs.Scopes.{kept-all}
 use Rattle.annotation.specs.Answers.{pick, typeAnswer}
@@ -104,7 +105,7 @@ module _ {words ts before pushed after : List ℕ} {d inner i w p e f g : ℕ} {
 
   -- by the uses of the kind's row
   by-uses : {r : ℕ} → Ruled ts after d i (wordKind w) (wordA w) p e f g r → Answers words ts before after d i r
-  unfolding fields kept
+  unfolding fields kept rowChildren
   by-uses rule = record {
     kept = stays;
     reply = λ s Γ l b h room.

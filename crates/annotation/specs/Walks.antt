@@ -16,6 +16,7 @@ use Rattle.lambdamix.specs.Term.{Term, Terms, nilT, consT, build, tree, height}
 use Rattle.lambdamix.specs.Types.{blankType, typeOf, typeCount}
 use Rattle.lambdamix.specs.Typing.{Context, empty, bind}
 use Rattle.lambdamix.specs.Checker.{check, annotationRefusal}
+use Rattle.script.specs.Kinds.{isBinder, isChild}
 use Rattle.script.specs.declared.Counts.{Counts}
 use Rattle.script.specs.declared.Row.{Row}
 use Rattle.script.specs.declared.Verdict.{Verdict}
@@ -24,7 +25,7 @@ use Rattle.script.specs.Tables.{rowNode, tablesOf}
 use Rattle.script.specs.Replies.{refusalOf}
 use Rattle.script.specs.KindRows.{rowAt}
 use Rattle.script.specs.Words.{wordKind, Packed}
-use Rattle.tables.specs.Walks.{isBinder, isChild, Kept}
+use Rattle.tables.specs.Walks.{Kept}
 use Rattle.annotation.specs.Answers.{scriptOf, Passes, pick, highHalf, lowHalf, typeAnswer, faultAnswer, Stands}
 
 -- two numbers of 16 bits in a word of 32

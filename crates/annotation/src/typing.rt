@@ -10,6 +10,8 @@ use script::Row;
 use script::TypeNumber;
 use script::Verdict;
 use script::column::type_at;
+use script::kinds::is_binder;
+use script::kinds::is_child;
 use script::kinds::row_of;
 use script::limits::MAX_HEIGHT;
 use script::limits::MAX_INPUTS;
@@ -28,9 +30,9 @@ ghost use mathlib.Core.Bool.{_&&_};
 ghost use lib.ListN.{getD, length, replicate, set};
 ghost use lib.Dec.{eqb};
 ghost use Rattle.lambdamix.specs.Limits.{maxTypes};
+ghost use Rattle.script.specs.Kinds.{isBinder, isChild};
 ghost use Rattle.script.specs.Replies.{refusalOf};
 ghost use Rattle.script.specs.Words.{wordKind, wordA};
-ghost use Rattle.tables.specs.Walks.{isBinder, isChild};
 ghost use Rattle.annotation.specs.Answers.{applyAnswer, faultAnswer, fixAnswer, givenBy, highHalf, lowHalf, lowest, pairWord, rootAnswer, typeAnswer, typeIn};
 ghost use Rattle.annotation.specs.Walks.{Annotated, Answers, Bottom, ChildAnswers, Entered, FieldAnswers, Lists, Listing, Pair, Pushed, RowOf, Ruled, bound, parameterBy, unlisted};
 
@@ -262,32 +264,6 @@ fn push(stack: &mut [u32], depth: usize, w: u32) -> usize
         return depth + 1;
     }
     depth
-}
-
-fn is_binder(u: Use) -> bool
-    ensures { λ r. ⌜ r ≡ isBinder u ⌝ }
-{
-    match u {
-        Use::Binder => true,
-        Use::Nothing => false,
-        Use::Name => false,
-        Use::Child => false,
-        Use::ParameterType => false,
-        Use::Operation => false,
-    }
-}
-
-fn is_child(u: Use) -> bool
-    ensures { λ r. ⌜ r ≡ isChild u ⌝ }
-{
-    match u {
-        Use::Child => true,
-        Use::Nothing => false,
-        Use::Name => false,
-        Use::Binder => false,
-        Use::ParameterType => false,
-        Use::Operation => false,
-    }
 }
 
 // The type of a binder's parameter, by the use of the field that may name it: that one, or D.

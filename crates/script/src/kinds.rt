@@ -2,7 +2,7 @@
 use crate::Row;
 use lambdamix::Use;
 ghost use mathlib.Core.Path.{_≡_};
-ghost use Rattle.script.specs.Kinds.{useOf};
+ghost use Rattle.script.specs.Kinds.{useOf, isChild, isBinder};
 ghost use Rattle.script.specs.KindRows.{rowAt};
 
 const USES: [[Use; 3]; 13] = [
@@ -40,4 +40,31 @@ pub fn row_of(kind: u8) -> Row
     ensures { λ r. ⌜ r ≡ rowAt kind ⌝ }
 {
     Row(use_of(kind, 0), use_of(kind, 1), use_of(kind, 2))
+}
+
+// What a use asks of a walk.
+pub fn is_child(u: Use) -> bool
+    ensures { λ r. ⌜ r ≡ isChild u ⌝ }
+{
+    match u {
+        Use::Child => true,
+        Use::Nothing => false,
+        Use::Name => false,
+        Use::Binder => false,
+        Use::ParameterType => false,
+        Use::Operation => false,
+    }
+}
+
+pub fn is_binder(u: Use) -> bool
+    ensures { λ r. ⌜ r ≡ isBinder u ⌝ }
+{
+    match u {
+        Use::Binder => true,
+        Use::Nothing => false,
+        Use::Name => false,
+        Use::Child => false,
+        Use::ParameterType => false,
+        Use::Operation => false,
+    }
 }

@@ -15,9 +15,10 @@ use Rattle.lambdamix.specs.Limits.{maxHeight}
 use Rattle.lambdamix.specs.Falling.{below}
 use Rattle.lambdamix.specs.Structure.{firstBy, lowest, lowestBy}
 use Rattle.lambdamix.proofs.Falling.{below-at, falling-step, below-out}
+use Rattle.script.specs.Kinds.{isChild}
 use Rattle.script.specs.declared.Row.{Row}
 use Rattle.script.specs.Words.{Columns, columnsIn}
-use Rattle.tables.specs.Walks.{isChild, keptIf, rowChildren, wordChildren, childrenAt, gathered, heightStep, heightAt, tooHighStep, tooHighAt, heightOver, Tall, low, high, TallJoin, TallNode, TallOver}
+use Rattle.tables.specs.Walks.{keptIf, rowChildren, wordChildren, childrenAt, gathered, heightStep, heightAt, tooHighStep, tooHighAt, heightOver, Tall, low, high, TallJoin, TallNode, TallOver}
 
 pub lowest-none : (r : Option ℕ) → lowest r none ≡ r
 unfolding lowest

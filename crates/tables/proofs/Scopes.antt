@@ -16,10 +16,11 @@ use Rattle.lambdamix.specs.Structure.{lowest, lowestBy, member}
 use Rattle.lambdamix.proofs.Falling.{below-at, falling-step, below-out}
 use Rattle.lambdamix.specs.declared.Use.{Use}
 use Rattle.lambdamix.specs.declared.Use.the-variants.{Nothing, Child}
+use Rattle.script.specs.Kinds.{isBinder, isChild}
 use Rattle.script.specs.declared.Row.{Row}
 use Rattle.script.specs.KindRows.{rowAt}
 use Rattle.script.specs.Words.{wordKind, wordA, wordB, wordC, Columns, columnsIn}
-use Rattle.tables.specs.Walks.{isChild, isBinder, keptIf, rowChildren, wordChildren, gathered, heightAt, heightOver, unboundField, unboundFields, unboundBy, unboundStep, unboundAt, unboundBelow, innermost, Kept, Entered, Lower, same, node, Scoped}
+use Rattle.tables.specs.Walks.{keptIf, rowChildren, wordChildren, gathered, heightAt, heightOver, unboundField, unboundFields, unboundBy, unboundStep, unboundAt, unboundBelow, innermost, Kept, Entered, Lower, same, node, Scoped}
 use Rattle.tables.proofs.Heights.{word-height, height-fields}
 
 -- kept names are the same list

@@ -17,10 +17,10 @@ use Rattle.lambdamix.specs.Term.{Term, blankTerm, childAt, build, terms, treeSt
 use Rattle.lambdamix.specs.Structure.{lowest, unbound}
 use Rattle.lambdamix.proofs.Falling.{falling-step}
 use Rattle.script.specs.declared.Row as kinds
-use Rattle.script.specs.Kinds.{useOf}
+use Rattle.script.specs.Kinds.{isChild, useOf}
 use Rattle.script.specs.KindRows.{rowAt}
 use Rattle.script.specs.Tables.{Tables, rowNode}
-use Rattle.tables.specs.Walks.{columnsOf, isChild, keptIf, rowChildren, childrenAt, gathered, heightStep, heightAt, unboundName, unboundField, unboundFields, unboundBy, unboundStep, unboundAt}
+use Rattle.tables.specs.Walks.{columnsOf, keptIf, rowChildren, childrenAt, gathered, heightStep, heightAt, unboundName, unboundField, unboundFields, unboundBy, unboundStep, unboundAt}
 use Rattle.script.proofs.TableLaws.{row-uses}
 use Rattle.tables.proofs.Heights.{lowest-none}
 

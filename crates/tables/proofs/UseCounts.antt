@@ -11,9 +11,10 @@ use lib.Seq.{getD-set-same, getD-set-other}
 use lib.Dec.{eqb}
 use borrow.Author.Tests.{eqb-true, eqb-false, eq-eqb, ne-eqb}
 use Rattle.lambdamix.specs.Structure.{oneIf, occurrences}
+use Rattle.script.specs.Kinds.{isChild}
 use Rattle.script.specs.declared.Row.{Row}
 use Rattle.script.specs.Words.{columnsIn}
-use Rattle.tables.specs.Walks.{isChild, keptIf, rowChildren, wordChildren, usesBelow, Counted}
+use Rattle.tables.specs.Walks.{keptIf, rowChildren, wordChildren, usesBelow, Counted}
 use Rattle.tables.proofs.Heights.{word-children}
 
 -- no node is counted

@@ -13,6 +13,7 @@ use Rattle.lambdamix.specs.declared.Use.the-variants.{Nothing, Name, Binder, Ch
 use Rattle.lambdamix.specs.Limits.{maxNodes, maxHeight}
 use Rattle.lambdamix.specs.Falling.{below, falling}
 use Rattle.lambdamix.specs.Structure.{firstBy, occurrences, lowest, member, unlessBound, structureRefusal}
+use Rattle.script.specs.Kinds.{isBinder, isChild}
 use Rattle.script.specs.declared.Row.{Row}
 use Rattle.script.specs.declared.Verdict.{Verdict}
 use Rattle.script.specs.KindRows.{rowAt}
@@ -31,23 +32,6 @@ columnsOf x =
       c = λ i. getD (x .c) i 0;
       value = λ i. getD (x .values) i (pos 0);
     }
-
--- what a use asks of a walk
-abbrev pub isChild : Use → Bool
-isChild Nothing = false
-isChild Name = false
-isChild Binder = false
-isChild Child = true
-isChild ParameterType = false
-isChild Operation = false
-
-abbrev pub isBinder : Use → Bool
-isBinder Nothing = false
-isBinder Name = false
-isBinder Binder = true
-isBinder Child = false
-isBinder ParameterType = false
-isBinder Operation = false
 
 -- a field in front of others, where a test holds
 unfoldable pub keptIf : Bool → ℕ → List ℕ → List ℕ

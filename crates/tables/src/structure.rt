@@ -11,6 +11,8 @@ use script::Row;
 use script::Verdict;
 use script::column::at8;
 use script::column::put8;
+use script::kinds::is_binder;
+use script::kinds::is_child;
 use script::kinds::row_of;
 use script::limits::FEW_NODES;
 use script::limits::MAX_HEIGHT;
@@ -29,9 +31,10 @@ ghost use lib.Dec.{eqb};
 ghost use Rattle.lambdamix.specs.Limits.{maxNodes, maxHeight};
 ghost use Rattle.lambdamix.specs.Falling.{below};
 ghost use Rattle.lambdamix.specs.Structure.{occurrences, firstFailing, member, refusedAt, orElse};
+ghost use Rattle.script.specs.Kinds.{isBinder, isChild};
 ghost use Rattle.script.specs.Replies.{foundAt, refusalOf};
 ghost use Rattle.script.specs.Words.{wordA, wordB, wordC, columnsIn};
-ghost use Rattle.tables.specs.Walks.{isChild, keptIf, rowChildren, wordChildren, usesBelow, usedOnceAt, Counted, heightAt, tooHighAt, heightOver, Tall, TallOver, TallJoin, TallNode, isBinder, unboundName, unboundField, unboundBy, unboundBelow, unboundAt, innermost, Entered, Lower, Scoped, Structured};
+ghost use Rattle.tables.specs.Walks.{keptIf, rowChildren, wordChildren, usesBelow, usedOnceAt, Counted, heightAt, tooHighAt, heightOver, Tall, TallOver, TallJoin, TallNode, unboundName, unboundField, unboundBy, unboundBelow, unboundAt, innermost, Entered, Lower, Scoped, Structured};
 
 // The highest tree.
 const HIGHEST: u32 = MAX_HEIGHT as u32;
@@ -47,19 +50,6 @@ fn count_one(counts: &mut [u8], m: NodeNumber)
     let n = at8(counts, i);
     if n < 2 {
         put8(counts, i, n + 1);
-    }
-}
-
-fn is_child(u: Use) -> bool
-    ensures { λ r. ⌜ r ≡ isChild u ⌝ }
-{
-    match u {
-        Use::Child => true,
-        Use::Nothing => false,
-        Use::Name => false,
-        Use::Binder => false,
-        Use::ParameterType => false,
-        Use::Operation => false,
     }
 }
 
@@ -284,19 +274,6 @@ fn scope_name(
         return low;
     }
     lower(low, i.0)
-}
-
-fn is_binder(u: Use) -> bool
-    ensures { λ r. ⌜ r ≡ isBinder u ⌝ }
-{
-    match u {
-        Use::Binder => true,
-        Use::Nothing => false,
-        Use::Name => false,
-        Use::Child => false,
-        Use::ParameterType => false,
-        Use::Operation => false,
-    }
 }
 
 // A binder's name is put after those around it. How many names are around the children.
