@@ -8,11 +8,11 @@ use mathlib.Core.Option.{Option, some}
 use native.Mathlib.Omega.{arith}
 use lib.IntN.{ℤ, pos}
 use lib.ListN.{length, getD}
-use lib.Dec.{eqb, lit<}
+use lib.Dec.{ltb, eqb, lit<}
 use mir.Syntax.{w32}
 use mir.Val.{SFits, ofZ}
 use mir.Facts.{toZ-ofZ}
-use borrow.Author.Tests.{eqb-true, lt-ltb, le-ltb, eq-eqb, ne-eqb}
+use borrow.Author.Tests.{eqb-true, ltb-true, lt-ltb, le-ltb, eq-eqb, ne-eqb}
 use Rattle.lambdamix.specs.declared.Use.{Use}
 use Rattle.lambdamix.specs.declared.Use.the-variants.{Nothing}
 use Rattle.lambdamix.specs.Arithmetic.{eqZ}
@@ -81,9 +81,11 @@ module _ (t n j k a b c : ℕ) where
 
   module _ {m : ℕ} {r : Row} (e : r ≡ rowAt m) where
     -- What holds by the row of kind m holds of a node whose kind is m; its value comes as it is read back from its bits.
-    pub of-kind : k ≡ m → 0 < m → m < 13 → {v : ℤ} → SFits w32 v
+    pub of-kind : k ≡ m → (ltb 0 m && ltb m 13) ≡ true → {v : ℤ} → SFits w32 v
         → (eqZ (held w32 v) (pos 0) && fieldsRight t n j (r .0 ∷ r .1 ∷ r .2 ∷ []) (a ∷ b ∷ c ∷ [])) ≡ nodeFits t n (λ j. node k a b c v) j
-    of-kind f l h {v} g =
+    of-kind f x {v} g =
+        let l = ltb-true 0 m (and-both (ltb 0 m) (ltb m 13) x .0) in
+        let h = ltb-true m 13 (and-both (ltb 0 m) (ltb m 13) x .1) in
         rw (toZ-ofZ g, row-told e f h) (rw (ne-eqb k 0 (λ p. omega arith)) at (by-own-row v (omega arith)))
 
     pub of-constant : k ≡ m → m ≡ 0 → (v : ℤ)

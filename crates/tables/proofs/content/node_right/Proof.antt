@@ -1,6 +1,6 @@
 -- `tables::content::node_right` meets its contract: 0 and 1 by their rows, the rest by their range. Assumes nothing.
 use borrow.Author.Needs.{needs}
-use mathlib.Core.Path.{_∙_}
+use mathlib.Core.Path.{refl, _∙_}
 use native.Mathlib.Omega.{arith}
 use Rattle.tables.proofs.ContentLaws.{of-kind, of-constant, held-value, wrong-kind}
 use Rattle.tables.proofs.content.node_right.Statement.{statement}
@@ -10,9 +10,7 @@ returns : tie.Need-returns
 returns c = c .fields-right .ensures ∙ of-constant _ _ _ _ _ _ _ (c .before .row-of .ensures) (omega arith) (omega arith) _
 
 returns-2 : tie.Need-returns-2
-returns-2 c =
-    c .step-right .ensures ∙ of-kind _ _ _ _ _ _ _ (c .before .row-of2 .ensures) (omega arith) (omega arith) (omega arith)
-    (c .before .before .before .fits .value)
+returns-2 c = c .step-right .ensures ∙ of-kind _ _ _ _ _ _ _ (c .before .row-of2 .ensures) (omega arith) refl (c .before .before .before .fits .value)
 
 returns-3 : tie.Need-returns-3
 returns-3 c = c .static-right .ensures ∙ held-value _ _ _ _ _ _ _ (c .before .before .before .fits .value)

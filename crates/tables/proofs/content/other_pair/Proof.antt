@@ -8,15 +8,10 @@ use Rattle.tables.proofs.content.other_pair.Tie as tie
 returns : tie.Need-returns
 unfolding otherPair samePair
 returns c =
-    rw (
-      ← c .before .before .before .before .before .before .type-at .ensures,
-      ← c .before .before .before .before .before .type-at2 .ensures,
-      ← c .before .before .type-at3 .ensures,
-      ← c .before .type-at4 .ensures,
-      sym (c .before .before .before .before .same-type .ensures)
-          ∙ c .before .before .before .if1 .taken,
-    )
-    (ap not (c .same-type2 .ensures))
+    let q = c .before .before .before in
+    let p = q .before .before .before in
+    rw (← p .type-at .ensures, ← q .before .before .type-at2 .ensures, ← c .before .before .type-at3 .ensures, ← c .before .type-at4 .ensures)
+    (rw (sym (q .before .same-type .ensures) ∙ q .if1 .taken) (ap not (c .same-type2 .ensures)))
 
 returns-2 : tie.Need-returns-2
 unfolding otherPair samePair

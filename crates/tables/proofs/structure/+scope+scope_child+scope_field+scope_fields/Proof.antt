@@ -23,14 +23,14 @@ use Rattle.tables.proofs.structure.+scope+scope_child+scope_field+scope
 use Rattle.tables.proofs.structure.scope_fields.Reads as scope-fields
 use Rattle.tables.proofs.structure.scope_fields.Kinds as scope-fields-kinds
 use Rattle.tables.proofs.structure.+scope+scope_child+scope_field+scope_fields.Lts-scope_fields as scope-fields-lts
-use Rattle.tables.proofs.structure.put_binder.Reads as put-binder-reads
-use Rattle.tables.proofs.structure.scope_name.Reads as scope-name-reads
-use Rattle.script.proofs.kinds.row_of.Reads as row-of-reads
-use Rattle.script.proofs.word.field_a.Reads as field-a-reads
-use Rattle.script.proofs.word.field_b.Reads as field-b-reads
-use Rattle.script.proofs.word.field_c.Reads as field-c-reads
-use Rattle.script.proofs.word.kind.Reads as kind-reads
-use Rattle.script.proofs.word.node_word.Reads as node-word-reads
+use Rattle.tables.proofs.structure.put_binder.Reads as binder
+use Rattle.tables.proofs.structure.scope_name.Reads as scope-name
+use Rattle.script.proofs.kinds.row_of.Reads as row-of
+use Rattle.script.proofs.word.field_a.Reads as field-a
+use Rattle.script.proofs.word.field_b.Reads as field-b
+use Rattle.script.proofs.word.field_c.Reads as field-c
+use Rattle.script.proofs.word.kind.Reads as kind
+use Rattle.script.proofs.word.node_word.Reads as node-word
 use Rattle.tables.proofs.structure.+scope+scope_child+scope_field+scope_fields.{statement}
 use Rattle.tables.proofs.structure.+scope+scope_child+scope_field+scope_fields.Tie.{close}
 
@@ -71,36 +71,18 @@ abbrev fields-below : ℕ → In 3 scope-fields-kinds.ps
 fields-below t = and 3 scope-fields-kinds.ps (falls 3 scope-fields-kinds.ps _<_ μ-scope-fields t) scope-fields.Pre
 
 abbrev node-claims : ℕ → scope-lts.Claims
-node-claims t = (
-  node-word-reads.Asked,
-  node-word-reads.Learnt,
-  kind-reads.Asked,
-  kind-reads.Learnt,
-  row-of-reads.Asked,
-  row-of-reads.Learnt,
-  fields-below t,
-  scope-fields.Post,
-)
+node-claims t =
+    (node-word.Asked, node-word.Learnt, kind.Asked, kind.Learnt, row-of.Asked, row-of.Learnt, fields-below t, scope-fields.Post)
 
 abbrev child-claims : ℕ → scope-child-lts.Claims
 child-claims t = (node-below t, scope.Post)
 
 abbrev field-claims : ℕ → scope-field-lts.Claims
-field-claims t = (scope-name-reads.Asked, scope-name-reads.Learnt, child-below t, scope-child.Post)
+field-claims t = (scope-name.Asked, scope-name.Learnt, child-below t, scope-child.Post)
 
 abbrev fields-claims : ℕ → scope-fields-lts.Claims
-fields-claims t = (
-  field-a-reads.Asked,
-  field-a-reads.Learnt,
-  put-binder-reads.Asked,
-  put-binder-reads.Learnt,
-  field-below t,
-  scope-field.Post,
-  field-b-reads.Asked,
-  field-b-reads.Learnt,
-  field-c-reads.Asked,
-  field-c-reads.Learnt,
-)
+fields-claims t =
+    (field-a.Asked, field-a.Learnt, binder.Asked, binder.Learnt, field-below t, scope-field.Post, field-b.Asked, field-b.Learnt, field-c.Asked, field-c.Learnt)
 
 -- what a call asks: the measure falls, the names have room, and those around the children too
 asked : {A B C : Type 0} → A → B → C → A × (B × C)

@@ -23,15 +23,15 @@ use Rattle.tables.proofs.structure.+tall+tall_child+tall_children+tall_
 use Rattle.tables.proofs.structure.tall_fields.Reads as tall-fields
 use Rattle.tables.proofs.structure.tall_fields.Kinds as tall-fields-kinds
 use Rattle.tables.proofs.structure.+tall+tall_child+tall_children+tall_field+tall_fields.Lts-tall_fields as tall-fields-lts
-use Rattle.tables.proofs.structure.is_child.Reads as is-child-reads
-use Rattle.tables.proofs.structure.tall_join.Reads as tall-join-reads
-use Rattle.tables.proofs.structure.tall_over.Reads as tall-over-reads
-use Rattle.script.proofs.kinds.row_of.Reads as row-of-reads
-use Rattle.script.proofs.word.field_a.Reads as field-a-reads
-use Rattle.script.proofs.word.field_b.Reads as field-b-reads
-use Rattle.script.proofs.word.field_c.Reads as field-c-reads
-use Rattle.script.proofs.word.kind.Reads as kind-reads
-use Rattle.script.proofs.word.node_word.Reads as node-word-reads
+use Rattle.tables.proofs.structure.is_child.Reads as is-child
+use Rattle.tables.proofs.structure.tall_join.Reads as join
+use Rattle.tables.proofs.structure.tall_over.Reads as tall-over
+use Rattle.script.proofs.kinds.row_of.Reads as row-of
+use Rattle.script.proofs.word.field_a.Reads as field-a
+use Rattle.script.proofs.word.field_b.Reads as field-b
+use Rattle.script.proofs.word.field_c.Reads as field-c
+use Rattle.script.proofs.word.kind.Reads as kind
+use Rattle.script.proofs.word.node_word.Reads as node-word
 use Rattle.tables.proofs.structure.+tall+tall_child+tall_children+tall_field+tall_fields.{statement}
 use Rattle.tables.proofs.structure.+tall+tall_child+tall_children+tall_field+tall_fields.Tie.{close}
 
@@ -81,30 +81,20 @@ abbrev fields-below : ℕ → In 2 tall-fields-kinds.ps
 fields-below t = and 2 tall-fields-kinds.ps (falls 2 tall-fields-kinds.ps _<_ μ-tall-fields t) tall-fields.Pre
 
 abbrev node-claims : ℕ → tall-lts.Claims
-node-claims t = (node-word-reads.Asked, node-word-reads.Learnt, children-below t, tall-children.Post, tall-over-reads.Asked, tall-over-reads.Learnt)
+node-claims t = (node-word.Asked, node-word.Learnt, children-below t, tall-children.Post, tall-over.Asked, tall-over.Learnt)
 
 abbrev child-claims : ℕ → tall-child-lts.Claims
 child-claims t = (node-below t, tall.Post)
 
 abbrev children-claims : ℕ → tall-children-lts.Claims
-children-claims t = (kind-reads.Asked, kind-reads.Learnt, row-of-reads.Asked, row-of-reads.Learnt, fields-below t, tall-fields.Post)
+children-claims t = (kind.Asked, kind.Learnt, row-of.Asked, row-of.Learnt, fields-below t, tall-fields.Post)
 
 abbrev field-claims : ℕ → tall-field-lts.Claims
-field-claims t = (is-child-reads.Asked, is-child-reads.Learnt, child-below t, tall-child.Post)
+field-claims t = (is-child.Asked, is-child.Learnt, child-below t, tall-child.Post)
 
 abbrev fields-claims : ℕ → tall-fields-lts.Claims
-fields-claims t = (
-  field-a-reads.Asked,
-  field-a-reads.Learnt,
-  field-below t,
-  tall-field.Post,
-  field-b-reads.Asked,
-  field-b-reads.Learnt,
-  field-c-reads.Asked,
-  field-c-reads.Learnt,
-  tall-join-reads.Asked,
-  tall-join-reads.Learnt,
-)
+fields-claims t =
+    (field-a.Asked, field-a.Learnt, field-below t, tall-field.Post, field-b.Asked, field-b.Learnt, field-c.Asked, field-c.Learnt, join.Asked, join.Learnt)
 
 node-returns : (t : ℕ) → tall-lts.Need-returns (node-claims t) (node-at t) tall.Post
 node-returns t c =

@@ -29,43 +29,30 @@ count-node-spec =
     (λ c κs. tt) (λ c κs. tt)
     (λ c κs. tt) (λ c κs. tt)
     (λ c κs. tt) (λ c κs. tt)
-    (λ c. search needs)
-    (λ c. rw (own-children _ (c .before .before .before .before .before .before .kind .ensures) (c .before .before .before .row-of .ensures)
-    (omega arith)) (c .before .before .count-fields .ensures))
-    (λ c. search needs)
-    (λ c. rw (own-children _ (c .before .before .before .before .before .before .kind .ensures) (c .before .before .before .row-of2 .ensures)
-    (omega arith)) (c .before .before .count-fields2 .ensures))
-    (λ c. search needs)
-    (λ c. rw (own-children _ (c .before .before .before .before .before .before .kind .ensures) (c .before .before .before .row-of3 .ensures)
-    (omega arith)) (c .before .before .count-fields3 .ensures))
-    (λ c. search needs)
-    (λ c. rw (own-children _ (c .before .before .before .before .before .before .kind .ensures) (c .before .before .before .row-of4 .ensures)
-    (omega arith)) (c .before .before .count-fields4 .ensures))
-    (λ c. search needs)
-    (λ c. rw (own-children _ (c .before .before .before .before .before .before .kind .ensures) (c .before .before .before .row-of5 .ensures)
-    (omega arith)) (c .before .before .count-fields5 .ensures))
-    (λ c. search needs)
-    (λ c. rw (own-children _ (c .before .before .before .before .before .before .kind .ensures) (c .before .before .before .row-of6 .ensures)
-    (omega arith)) (c .before .before .count-fields6 .ensures))
-    (λ c. search needs)
-    (λ c. rw (own-children _ (c .before .before .before .before .before .before .kind .ensures) (c .before .before .before .row-of7 .ensures)
-    (omega arith)) (c .before .before .count-fields7 .ensures))
-    (λ c. search needs)
-    (λ c. rw (own-children _ (c .before .before .before .before .before .before .kind .ensures) (c .before .before .before .row-of8 .ensures)
-    (omega arith)) (c .before .before .count-fields8 .ensures))
-    (λ c. search needs)
-    (λ c. rw (own-children _ (c .before .before .before .before .before .before .kind .ensures) (c .before .before .before .row-of9 .ensures)
-    (omega arith)) (c .before .before .count-fields9 .ensures))
-    (λ c. search needs)
-    (λ c. rw (own-children _ (c .before .before .before .before .before .before .kind .ensures) (c .before .before .before .row-of10 .ensures)
-    (omega arith)) (c .before .before .count-fields10 .ensures))
-    (λ c. search needs)
-    (λ c. rw (own-children _ (c .before .before .before .before .before .before .kind .ensures) (c .before .before .before .row-of11 .ensures)
-    (omega arith)) (c .before .before .count-fields11 .ensures))
-    (λ c. search needs)
-    (λ c. rw (own-children _ (c .before .before .before .before .before .before .kind .ensures) (c .before .before .before .row-of12 .ensures)
-    (omega arith)) (c .before .before .count-fields12 .ensures))
-    (λ c. search needs)
-    (λ c. rw (own-children _ (c .before .before .before .before .before .before .kind .ensures) (c .before .before .before .row-of13 .ensures)
-    (omega arith)) (c .before .before .count-fields13 .ensures))
+    (λ c. search needs) (λ c. let r = c .before .before .before in
+    rw (own-children _ (r .before .before .before .kind .ensures) (r .row-of .ensures) (omega arith)) (c .before .before .count-fields .ensures))
+    (λ c. search needs) (λ c. let r = c .before .before .before in
+    rw (own-children _ (r .before .before .before .kind .ensures) (r .row-of2 .ensures) (omega arith)) (c .before .before .count-fields2 .ensures))
+    (λ c. search needs) (λ c. let r = c .before .before .before in
+    rw (own-children _ (r .before .before .before .kind .ensures) (r .row-of3 .ensures) (omega arith)) (c .before .before .count-fields3 .ensures))
+    (λ c. search needs) (λ c. let r = c .before .before .before in
+    rw (own-children _ (r .before .before .before .kind .ensures) (r .row-of4 .ensures) (omega arith)) (c .before .before .count-fields4 .ensures))
+    (λ c. search needs) (λ c. let r = c .before .before .before in
+    rw (own-children _ (r .before .before .before .kind .ensures) (r .row-of5 .ensures) (omega arith)) (c .before .before .count-fields5 .ensures))
+    (λ c. search needs) (λ c. let r = c .before .before .before in
+    rw (own-children _ (r .before .before .before .kind .ensures) (r .row-of6 .ensures) (omega arith)) (c .before .before .count-fields6 .ensures))
+    (λ c. search needs) (λ c. let r = c .before .before .before in
+    rw (own-children _ (r .before .before .before .kind .ensures) (r .row-of7 .ensures) (omega arith)) (c .before .before .count-fields7 .ensures))
+    (λ c. search needs) (λ c. let r = c .before .before .before in
+    rw (own-children _ (r .before .before .before .kind .ensures) (r .row-of8 .ensures) (omega arith)) (c .before .before .count-fields8 .ensures))
+    (λ c. search needs) (λ c. let r = c .before .before .before in
+    rw (own-children _ (r .before .before .before .kind .ensures) (r .row-of9 .ensures) (omega arith)) (c .before .before .count-fields9 .ensures))
+    (λ c. search needs) (λ c. let r = c .before .before .before in
+    rw (own-children _ (r .before .before .before .kind .ensures) (r .row-of10 .ensures) (omega arith)) (c .before .before .count-fields10 .ensures))
+    (λ c. search needs) (λ c. let r = c .before .before .before in
+    rw (own-children _ (r .before .before .before .kind .ensures) (r .row-of11 .ensures) (omega arith)) (c .before .before .count-fields11 .ensures))
+    (λ c. search needs) (λ c. let r = c .before .before .before in
+    rw (own-children _ (r .before .before .before .kind .ensures) (r .row-of12 .ensures) (omega arith)) (c .before .before .count-fields12 .ensures))
+    (λ c. search needs) (λ c. let r = c .before .before .before in
+    rw (own-children _ (r .before .before .before .kind .ensures) (r .row-of13 .ensures) (omega arith)) (c .before .before .count-fields13 .ensures))
     past-returns)
