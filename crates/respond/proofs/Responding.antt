@@ -26,7 +26,8 @@ use Rattle.printer.specs.Places.{most}
 use Rattle.script.proofs.Rows.{everywhere}
 use Rattle.respond.specs.declared.Response.the-variants.{Printed, Refused}
 use Rattle.respond.specs.Response.{scriptLength, scriptPart, settingsPart, inputReply, replyTo, unmadeText, replyText, response}
-use Rattle.respond.specs.Answers.{replying, responseReply, outputRefusal, Responds}
+use Rattle.script.specs.Replies.{replying}
+use Rattle.respond.specs.Answers.{responseReply, outputRefusal, Responds}
 use Rattle.respond.specs.Stages.{Prints, AnswersScript, AnswersReading, Answers}
 use Rattle.respond.proofs.Splitting.{front-part, back-part}
 use Rattle.respond.proofs.Holding.{one-count, refused-not-read, passed-read, refused-read, held}

@@ -9,21 +9,11 @@ use lib.Dec.{leb}
 use Rattle.lambdamix.specs.Limits.{maxBytes}
 use Rattle.lambdamix.specs.Checker.{Refusal}
 use Rattle.lambdamix.specs.Structure.{refusedUnless}
+use Rattle.script.specs.Replies.{Reply, replying}
 use Rattle.script.specs.Tables.{writtenOutput}
 use Rattle.respond.specs.declared.Response.{Response}
 use Rattle.respond.specs.declared.Response.the-variants.{Printed, Refused}
 use Rattle.respond.specs.Response.{response}
-
--- a reply: number, place, and the value that only a success carries
-pub record Reply (A : Type 0) : Type 0 where
-  pub number : ℕ
-  pub place : ℕ
-  pub carried : Option A
-
--- the reply where this refuses, if anything, and where a success carries a
-unfoldable pub replying : {A : Type 0} → Option Refusal → A → Reply A
-replying none a = record { number = 0; place = 0; carried = some a }
-replying (some f) a = record { number = f .number; place = f .place; carried = none }
 
 -- each case of the answer; a success carries how many bytes were printed
 unfoldable pub responseReply : Response → Reply ℕ

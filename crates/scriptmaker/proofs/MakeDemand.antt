@@ -22,9 +22,8 @@ in-struct :
     {n : Script.Counts} {x : Tables} {zs : List ℤ} {fuel : ℕ} {before : Stores} {left : List ℕ} (q : Reply) →
     KeepsDemandThree n x zs fuel before (numberIn q) (stepsIn q) (nodesIn q) left →
     KeepsDemandThree n x zs fuel before (makeReply q .number) (makeReply q .steps) (makeReply q .nodes) left
-unfolding makeReply numberIn stepsIn nodesIn
-in-struct (made k w) h = h
-in-struct (unmade f k) h = h
+unfolding makeReply
+in-struct q h = h
 
 -- Theorem: what `scriptmaker_make` promises of a call on an accepted script keeps demand 3.
 pub make-keeps-demand-three :

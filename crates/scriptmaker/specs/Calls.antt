@@ -15,7 +15,7 @@ use Rattle.script.specs.Widths.{LentTables}
 use Rattle.script.specs.Replies.{Reply, replying, headCounts}
 use Rattle.annotation.specs.Checks.{checkRefusal}
 use Rattle.residual.specs.AfterRun as AfterRun
-use Rattle.residual.specs.AfterRun.{made, unmade}
+use Rattle.residual.specs.AfterRun.{numberIn, placeIn, stepsIn, nodesIn}
 use Rattle.specializer.specs.Making.{Stores, making, refusalBefore, storesAfter}
 use Rattle.specializer.specs.Entry.{GivenFit}
 use Rattle.printer.specs.Answers.{tablesText, listRefusal}
@@ -49,8 +49,7 @@ checkReply r = record { number = r .number; place = r .place }
 
 -- the maker's answer; without code there are 0 nodes
 unfoldable pub makeReply : AfterRun.Reply → MakeReply
-makeReply (made k n) = record { number = 0; place = 0; steps = k; nodes = n }
-makeReply (unmade f k) = record { number = f .number; place = f .place; steps = k; nodes = 0 }
+makeReply r = record { number = numberIn r; place = placeIn r; steps = stepsIn r; nodes = nodesIn r }
 
 -- reading: the reply, and the tables after it
 pub record Reads (bs : List ℕ) (before after : Tables) (r : ReadReply) : Type 0 where

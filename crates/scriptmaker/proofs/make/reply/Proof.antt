@@ -1,16 +1,17 @@
 -- `scriptmaker::make::reply` meets its contract, case by case. Assumes nothing.
 use borrow.Author.Needs.{needs}
 use Rattle.specializer.specs.Entry.{replied}
+use Rattle.residual.specs.AfterRun.{numberIn, placeIn, stepsIn, nodesIn}
 use Rattle.scriptmaker.specs.Calls.{makeReply}
 use Rattle.scriptmaker.proofs.make.reply.Statement.{statement}
 use Rattle.scriptmaker.proofs.make.reply.Tie as tie
 
 returns : tie.Need-returns
-unfolding makeReply replied
+unfolding makeReply replied numberIn placeIn stepsIn nodesIn
 returns c = rw (c .before .r .given .1)
 
 returns-2 : tie.Need-returns-2
-unfolding makeReply replied
+unfolding makeReply replied numberIn placeIn stepsIn nodesIn
 returns-2 c = rw (c .before .r2 .given .1)
 
 pub reply-spec : {M : Type 1} → statement M
