@@ -20,7 +20,7 @@ use Rattle.annotation.proofs.typing.node.Reads as node
 use Rattle.annotation.proofs.typing.node.Kinds as node-kinds
 use Rattle.annotation.proofs.typing.+child+field+fields+node.Lts-node as node-lts
 use Rattle.annotation.proofs.typing.enter.Reads as enter-reads
-use Rattle.annotation.proofs.typing.is_child.Reads as is-child-reads
+use Rattle.script.proofs.kinds.is_child.Reads as is-child-reads
 use Rattle.annotation.proofs.typing.parameter.Reads as parameter-reads
 use Rattle.annotation.proofs.typing.rule.Reads as rule-reads
 use Rattle.annotation.proofs.typing.typed.Reads as typed-reads

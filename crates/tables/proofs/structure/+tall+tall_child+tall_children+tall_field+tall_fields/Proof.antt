@@ -23,7 +23,7 @@ use Rattle.tables.proofs.structure.+tall+tall_child+tall_children+tall_
 use Rattle.tables.proofs.structure.tall_fields.Reads as tall-fields
 use Rattle.tables.proofs.structure.tall_fields.Kinds as tall-fields-kinds
 use Rattle.tables.proofs.structure.+tall+tall_child+tall_children+tall_field+tall_fields.Lts-tall_fields as tall-fields-lts
-use Rattle.tables.proofs.structure.is_child.Reads as is-child
+use Rattle.script.proofs.kinds.is_child.Reads as is-child
 use Rattle.tables.proofs.structure.tall_join.Reads as join
 use Rattle.tables.proofs.structure.tall_over.Reads as tall-over
 use Rattle.script.proofs.kinds.row_of.Reads as row-of
