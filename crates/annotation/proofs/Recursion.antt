@@ -7,7 +7,7 @@ use mathlib.Core.List.{List, [], _∷_}
 use native.Mathlib.Omega.{arith}
 use lib.ListN.{length, getD}
 use Rattle.lambdamix.specs.declared.Use.{Use}
-use Rattle.lambdamix.specs.declared.Use.the-variants.{Nothing}
+use Rattle.lambdamix.specs.declared.Use.the-variants.{Nothing, Name}
 use Rattle.lambdamix.specs.Script.{Script, rows, blankRow, nodeAt, nodeCount, fields, childFields}
 use Rattle.lambdamix.specs.Term.{terms, tree, height, heights}
 use Rattle.lambdamix.specs.Types.{typeOf, typeCount}
@@ -20,10 +20,10 @@ use Rattle.tables.specs.Walks.{keptIf, Kept, rowChildren}
 use Rattle.tables.proofs.TreeForms.{All, kept-fields}
 use Rattle.tables.proofs.Scopes.{kept-all}
 use Rattle.annotation.specs.Answers.{pick, typeAnswer}
-use Rattle.annotation.specs.Walks.{Lent, Pair, Pushed, Binds, Entered, entered, passed-over, parameterBy, Answers, ChildAnswers, FieldAnswers, typed-child, not-visited, RowOf, Stand, none-left, child-then, other-then, places, Ruled}
+use Rattle.annotation.specs.Walks.{Lent, Pair, bound, Pushed, Binds, Entered, entered, passed-over, parameterBy, Answers, ChildAnswers, FieldAnswers, typed-child, not-visited, RowOf, Stand, none-left, child-then, other-then, places, Ruled}
 use Rattle.annotation.proofs.Trees.{Below, wordNode, kind-below, word-drawn, row-use}
 use Rattle.annotation.proofs.Contexts.{binds-kept, kept-then, binds-more}
-use Rattle.annotation.proofs.Rules.{NotBelow, not-below}
+use Rattle.annotation.proofs.Rules.{NotAmong, past-all, constant-ruled, variable-ruled}
 
 -- ---- a field that may be a binder
 
@@ -123,8 +123,9 @@ module _ {words ts before pushed after : List ℕ} {d inner i w p e f g : ℕ} {
 
 -- the row that the code reads at a kind's number is that of the node's kind
 pub of-row :
-    {words : List ℕ} {i w k : ℕ} {row : Row} (n : ℕ) → w ≡ getD words i 0 → k ≡ wordKind w → row ≡ rowAt n → k ≡ n → RowOf words i w row
-of-row n o e r q = record { word = o; row = rw (← e, q) r }
+    {words : List ℕ} {i w k : ℕ} {row : Row} (n : ℕ) → w ≡ getD words i 0 → k ≡ wordKind w → row ≡ rowAt n → k ≡ n → 2 ≤ n →
+    RowOf words i w row
+of-row n o e r q m = record { word = o; row = rw (← e, q) r; inner = omega arith }
 
 -- Theorem: the answer of a node whose fields are answered, each by its use in the table's row.
 pub at-fields :
@@ -141,13 +142,33 @@ at-fields {w = w} o pq q enter n x a u ea b v eb c z ec rule =
     by-uses (o .word) refl (rw (o .row, row-use k 1) at (pq ∙ q)) (rw (n, o .row, x, row-use k 0) at enter)
     (three-fields (rw (u, o .row, ea, row-use k 0) at a) (rw (v, o .row, eb, row-use k 1) at b) (rw (z, o .row, ec, row-use k 2) at c)) rule
 
+-- A leaf: its row has nothing to visit, and its answer is its rule's.
+at-leaf :
+    {words ts stack : List ℕ} {d i w r : ℕ} (u : Use) → isBinder u ≡ false → isChild u ≡ false → w ≡ getD words i 0 →
+    (u ∷ Nothing ∷ Nothing ∷ []) ≡ getD rows (wordKind w) blankRow .uses →
+    Ruled ts stack d i (wordKind w) (wordA w) 1 (typeAnswer 1) (typeAnswer 1) (typeAnswer 1) r → Answers words ts stack stack d i r
+at-leaf {stack = stack} {d = d} u b n o us rule =
+    by-uses {pushed = stack} {inner = d} o us refl (pass-over refl b) (three-fields (at-other-field refl n refl) not-visited not-visited) rule
+
+pub at-constant :
+    {words ts stack : List ℕ} {d i w k r : ℕ} → w ≡ getD words i 0 → k ≡ wordKind w → k ≡ 0 → r ≡ typeAnswer 0 →
+    Answers words ts stack stack d i r
+unfolding rows
+at-constant o e q y = at-leaf Nothing refl refl o (rw (← e, q)) (constant-ruled e q y)
+
+pub at-variable :
+    {words ts stack : List ℕ} {d i w k x r : ℕ} → w ≡ getD words i 0 → k ≡ wordKind w → k ≡ 1 → x ≡ wordA w →
+    (d ≤ length stack → r ≡ bound stack x i d) → Answers words ts stack stack d i r
+unfolding rows
+at-variable o e q x y = at-leaf Name refl refl o (rw (← e, q)) (variable-ruled e q x y)
+
 -- a kind past the table
 pub at-no-kind :
-    {words ts stack : List ℕ} {d i w k r : ℕ} → w ≡ getD words i 0 → k ≡ wordKind w → NotBelow 13 k → Answers words ts stack stack d i r
+    {words ts stack : List ℕ} {d i w k r : ℕ} → w ≡ getD words i 0 → k ≡ wordKind w → NotAmong 0 13 k → Answers words ts stack stack d i r
 at-no-kind {k} o q n = record {
   kept = kept-all _ _;
   reply = λ s Γ l b h room.
-      let z : ⊥ = omega (arith, not-below 13 k n, kind-below l h o) in
+      let z : ⊥ = omega (arith, past-all 0 13 k (omega arith) n, kind-below l h o) in
       absurd z;
 }
 

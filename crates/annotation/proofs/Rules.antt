@@ -214,15 +214,15 @@ module _ {s : Script} {Γ : Context} where
   three-typed (child-then p (child-then q (child-then r _))) l m n =
       ((typed-answer p l, p .known l), (typed-answer q m, q .known m), (typed-answer r n, r .known n))
 
--- a number is none of those below another
-unfoldable pub NotBelow : ℕ → ℕ → Type 0
-NotBelow zero k = Unit {0}
-NotBelow (suc j) k = NotBelow j k × (k ≡ j → ⊥)
+-- a number is none of the j from l on
+unfoldable pub NotAmong : ℕ → ℕ → ℕ → Type 0
+NotAmong l zero k = Unit {0}
+NotAmong l (suc j) k = NotAmong l j k × (k ≡ l + j → ⊥)
 
-pub not-below : (j k : ℕ) → NotBelow j k → j ≤ k
-unfolding NotBelow
-not-below zero k n = omega arith
-not-below (suc j) k n = let l = not-below j k (n .0) in omega (arith, n .1)
+pub past-all : (l j k : ℕ) → l ≤ k → NotAmong l j k → l + j ≤ k
+unfolding NotAmong
+past-all l zero k m n = omega arith
+past-all l (suc j) k m n = let p = past-all l j k m (n .0) in omega (arith, n .1)
 
 -- late kinds: all children D, however many
 unfoldable count : List Bool → ℕ
@@ -261,9 +261,8 @@ late-from (suc (suc (suc zero))) h = late-if
 late-from (suc (suc (suc (suc zero)))) h = late-operation
 late-from (suc (suc (suc (suc (suc j))))) h = let z : ⊥ = omega arith in absurd z
 
-late-kind : (k : ℕ) → NotBelow 8 k → k < 13 → Late k
-late-kind k n l =
-    let m = not-below 8 k n in
+late-kind : (k : ℕ) → 8 ≤ k → k < 13 → Late k
+late-kind k m l =
     let e : 8 + (k - 8) ≡ k = omega arith in
     rw e at (late-from (k - 8) (omega arith))
 
@@ -392,7 +391,7 @@ module _ {ls stack : List ℕ} {d i k x p e f g n m : ℕ} (c : n ≡ lowest f g
         })
 
     pub late-ruled :
-        {o : Bool} → NotBelow 8 j → o ≡ (eqb t 1 && (eqb u 1 && eqb v 1)) → r ≡ givenBy o 1 i → Ruled ls stack d i k x p e f g r
+        {o : Bool} → 8 ≤ j → o ≡ (eqb t 1 && (eqb u 1 && eqb v 1)) → r ≡ givenBy o 1 i → Ruled ls stack d i k x p e f g r
     late-ruled q o y =
         let (le, lf, lg) = three-types c a l in
         rw (y, o, te, uf, vg)

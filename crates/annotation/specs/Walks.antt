@@ -115,10 +115,11 @@ pub data FieldAnswers (words types : List ℕ) (d i m : ℕ) (before : List ℕ)
       {after : List ℕ} {r : ℕ} → ChildAnswers words types before after d i m r → FieldAnswers words types d i m before true after r
   not-visited : FieldAnswers words types d i m before false before (typeAnswer 1)
 
--- the word of node i, and the table's row of its kind
+-- the word of node i, which is no leaf, and the table's row of its kind
 pub record RowOf (words : List ℕ) (i w : ℕ) (r : Row) : Type 0 where
   pub word : w ≡ getD words i 0
   pub row : r ≡ rowAt (wordKind w)
+  pub inner : 2 ≤ wordKind w
 
 -- the answers es at fields, of which some are children: those stand for what `check` gives of the terms ts
 pub data Stand (s : Script) (Γ : Context) : List Bool → List ℕ → Terms → Type 0 where

@@ -221,7 +221,7 @@ fn all_dynamic(t: TypeNumber, u: TypeNumber, v: TypeNumber) -> bool
     both(t.0 == DYNAMIC.0, both(u.0 == DYNAMIC.0, v.0 == DYNAMIC.0))
 }
 
-// The rule of a node's kind on the answers at its fields, of which those that are no children are D; the lowest fault goes first.
+// The rule of a node with children on the answers at its fields, of which those that are no children are D; the lowest fault goes first.
 fn rule(
     types: &[u32],
     stack: &[u32],
@@ -233,6 +233,7 @@ fn rule(
     f: u32,
     g: u32,
 ) -> u32
+    requires { ⌜ 2 ≤ wordKind w ⌝ }
     ensures { λ r. ⌜ Ruled (now (types .entry)) (now (stack .entry)) depth (i .0) (wordKind w) (wordA w) (p .0) e f g r ⌝ }
 {
     let least = lower(e, lower(f, g));
@@ -243,8 +244,6 @@ fn rule(
     let u = type_in(f);
     let v = type_in(g);
     match kind(w) {
-        0 => typed(STATIC),
-        1 => variable(stack, depth, i, name_a(w)),
         2 => given(t.0 == STATIC.0, DYNAMIC, i),
         3 => function(types, i, p, v),
         4 => application(types, i, t, u),
@@ -299,7 +298,8 @@ fn put(s: &mut [u32], i: usize, w: u32)
     }
 }
 
-// The type of node i, under the first binders of the stack, by the table's row of its own kind.
+// The type of node i, under the first binders of the stack, by the table's row of its own kind; a leaf, whose row has nothing to visit,
+// by its rule.
 fn node(
     nodes: &&[u64],
     types: &[u32; MAX_TYPES],
@@ -311,8 +311,8 @@ fn node(
 {
     let w = node_word(*nodes, i);
     match kind(w) {
-        0 => fields(nodes, types, stack, depth, i, w, row_of(0)),
-        1 => fields(nodes, types, stack, depth, i, w, row_of(1)),
+        0 => typed(STATIC),
+        1 => variable(stack, depth, i, name_a(w)),
         2 => fields(nodes, types, stack, depth, i, w, row_of(2)),
         3 => fields(nodes, types, stack, depth, i, w, row_of(3)),
         4 => fields(nodes, types, stack, depth, i, w, row_of(4)),

@@ -5,8 +5,8 @@ use Prim.Native.Nat.{ℕ, _+_, _*_, _<_}
 use borrow.Fn.Kinds.{In}
 use borrow.Fn.PlainCycle.{Measures, is, falls, and}
 use native.Mathlib.Omega.{arith}
-use Rattle.annotation.proofs.Rules.{NotBelow}
-use Rattle.annotation.proofs.Recursion.{of-row, at-fields, at-no-kind, at-child-field, at-other-field, at-child, no-smaller}
+use Rattle.annotation.proofs.Rules.{NotAmong}
+use Rattle.annotation.proofs.Recursion.{of-row, at-fields, at-constant, at-variable, at-no-kind, at-child-field, at-other-field, at-child, no-smaller}
 use Rattle.annotation.proofs.typing.child.Reads as child
 use Rattle.annotation.proofs.typing.child.Kinds as child-kinds
 use Rattle.annotation.proofs.typing.+child+field+fields+node.Lts-child as child-lts
@@ -24,6 +24,7 @@ use Rattle.script.proofs.kinds.is_child.Reads as is-child-reads
 use Rattle.annotation.proofs.typing.parameter.Reads as parameter-reads
 use Rattle.annotation.proofs.typing.rule.Reads as rule-reads
 use Rattle.annotation.proofs.typing.typed.Reads as typed-reads
+use Rattle.annotation.proofs.typing.variable.Reads as variable-reads
 use Rattle.script.proofs.kinds.row_of.Reads as row-of-reads
 use Rattle.script.proofs.word.child_a.Reads as child-a-reads
 use Rattle.script.proofs.word.child_b.Reads as child-b-reads
@@ -118,12 +119,16 @@ node-calls t = (
   node-word-reads.Learnt,
   kind-reads.Asked,
   kind-reads.Learnt,
+  typed-reads.Asked,
+  typed-reads.Learnt,
+  name-a-reads.Asked,
+  name-a-reads.Learnt,
+  variable-reads.Asked,
+  variable-reads.Learnt,
   row-of-reads.Asked,
   row-of-reads.Learnt,
   fields-below t,
   fields.Post,
-  typed-reads.Asked,
-  typed-reads.Learnt,
 )
 
 child-node-requires : (t : ℕ) → child-lts.Need-node-requires (child-calls t) (child-at t) child.Post
@@ -154,6 +159,10 @@ fields-field-requires-3 : (t : ℕ) → fields-lts.Need-field-requires-3 (fields
 fields-field-requires-3 t c κs =
     (omega (arith, c .before .before .before .before .before .before .before .before .before .before .before .before .before .pre .0), tt)
 
+fields-rule-requires : (t : ℕ) → fields-lts.Need-rule-requires (fields-calls t) (fields-at t) fields.Post
+fields-rule-requires t c κs =
+    c .before .before .before .before .before .before .before .before .before .before .before .before .before .before .before .before .before .pre .1 .inner
+
 fields-returns : (t : ℕ) → fields-lts.Need-returns (fields-calls t) (fields-at t) fields.Post
 fields-returns t c =
     let s = c .before .before .before .before .before .before .before in
@@ -178,96 +187,90 @@ fields-returns t c =
 node-fields-requires : (t : ℕ) → node-lts.Need-fields-requires (node-calls t) (node-at t) node.Post
 node-fields-requires t c κs = (
   omega (arith, c .before .before .before .before .before .before .pre .0),
-  of-row _ (c .before .before .before .before .node-word .ensures) (c .before .before .before .kind .ensures) (c .row-of .ensures)
-      (omega (arith, c .before .before .match .keys1)),
+  of-row _ (c .before .before .before .before .node-word .ensures) (c .before .before .before .kind .ensures)
+      (c .row-of .ensures) (omega (arith, c .before .before .match .keys3)) (omega arith),
 )
 
 node-fields-requires-2 : (t : ℕ) → node-lts.Need-fields-requires-2 (node-calls t) (node-at t) node.Post
 node-fields-requires-2 t c κs = (
   omega (arith, c .before .before .before .before .before .before .pre .0),
-  of-row _ (c .before .before .before .before .node-word .ensures) (c .before .before .before .kind .ensures) (c .row-of2 .ensures)
-      (omega (arith, c .before .before .match .keys2)),
+  of-row _ (c .before .before .before .before .node-word .ensures) (c .before .before .before .kind .ensures)
+      (c .row-of2 .ensures) (omega (arith, c .before .before .match .keys4)) (omega arith),
 )
 
 node-fields-requires-3 : (t : ℕ) → node-lts.Need-fields-requires-3 (node-calls t) (node-at t) node.Post
 node-fields-requires-3 t c κs = (
   omega (arith, c .before .before .before .before .before .before .pre .0),
-  of-row _ (c .before .before .before .before .node-word .ensures) (c .before .before .before .kind .ensures) (c .row-of3 .ensures)
-      (omega (arith, c .before .before .match .keys3)),
+  of-row _ (c .before .before .before .before .node-word .ensures) (c .before .before .before .kind .ensures)
+      (c .row-of3 .ensures) (omega (arith, c .before .before .match .keys5)) (omega arith),
 )
 
 node-fields-requires-4 : (t : ℕ) → node-lts.Need-fields-requires-4 (node-calls t) (node-at t) node.Post
 node-fields-requires-4 t c κs = (
   omega (arith, c .before .before .before .before .before .before .pre .0),
-  of-row _ (c .before .before .before .before .node-word .ensures) (c .before .before .before .kind .ensures) (c .row-of4 .ensures)
-      (omega (arith, c .before .before .match .keys4)),
+  of-row _ (c .before .before .before .before .node-word .ensures) (c .before .before .before .kind .ensures)
+      (c .row-of4 .ensures) (omega (arith, c .before .before .match .keys6)) (omega arith),
 )
 
 node-fields-requires-5 : (t : ℕ) → node-lts.Need-fields-requires-5 (node-calls t) (node-at t) node.Post
 node-fields-requires-5 t c κs = (
   omega (arith, c .before .before .before .before .before .before .pre .0),
-  of-row _ (c .before .before .before .before .node-word .ensures) (c .before .before .before .kind .ensures) (c .row-of5 .ensures)
-      (omega (arith, c .before .before .match .keys5)),
+  of-row _ (c .before .before .before .before .node-word .ensures) (c .before .before .before .kind .ensures)
+      (c .row-of5 .ensures) (omega (arith, c .before .before .match .keys7)) (omega arith),
 )
 
 node-fields-requires-6 : (t : ℕ) → node-lts.Need-fields-requires-6 (node-calls t) (node-at t) node.Post
 node-fields-requires-6 t c κs = (
   omega (arith, c .before .before .before .before .before .before .pre .0),
-  of-row _ (c .before .before .before .before .node-word .ensures) (c .before .before .before .kind .ensures) (c .row-of6 .ensures)
-      (omega (arith, c .before .before .match .keys6)),
+  of-row _ (c .before .before .before .before .node-word .ensures) (c .before .before .before .kind .ensures)
+      (c .row-of6 .ensures) (omega (arith, c .before .before .match .keys8)) (omega arith),
 )
 
 node-fields-requires-7 : (t : ℕ) → node-lts.Need-fields-requires-7 (node-calls t) (node-at t) node.Post
 node-fields-requires-7 t c κs = (
   omega (arith, c .before .before .before .before .before .before .pre .0),
-  of-row _ (c .before .before .before .before .node-word .ensures) (c .before .before .before .kind .ensures) (c .row-of7 .ensures)
-      (omega (arith, c .before .before .match .keys7)),
+  of-row _ (c .before .before .before .before .node-word .ensures) (c .before .before .before .kind .ensures)
+      (c .row-of7 .ensures) (omega (arith, c .before .before .match .keys9)) (omega arith),
 )
 
 node-fields-requires-8 : (t : ℕ) → node-lts.Need-fields-requires-8 (node-calls t) (node-at t) node.Post
 node-fields-requires-8 t c κs = (
   omega (arith, c .before .before .before .before .before .before .pre .0),
-  of-row _ (c .before .before .before .before .node-word .ensures) (c .before .before .before .kind .ensures) (c .row-of8 .ensures)
-      (omega (arith, c .before .before .match .keys8)),
+  of-row _ (c .before .before .before .before .node-word .ensures) (c .before .before .before .kind .ensures)
+      (c .row-of8 .ensures) (omega (arith, c .before .before .match .keys10)) (omega arith),
 )
 
 node-fields-requires-9 : (t : ℕ) → node-lts.Need-fields-requires-9 (node-calls t) (node-at t) node.Post
 node-fields-requires-9 t c κs = (
   omega (arith, c .before .before .before .before .before .before .pre .0),
-  of-row _ (c .before .before .before .before .node-word .ensures) (c .before .before .before .kind .ensures) (c .row-of9 .ensures)
-      (omega (arith, c .before .before .match .keys9)),
+  of-row _ (c .before .before .before .before .node-word .ensures) (c .before .before .before .kind .ensures)
+      (c .row-of9 .ensures) (omega (arith, c .before .before .match .keys11)) (omega arith),
 )
 
 node-fields-requires-10 : (t : ℕ) → node-lts.Need-fields-requires-10 (node-calls t) (node-at t) node.Post
 node-fields-requires-10 t c κs = (
   omega (arith, c .before .before .before .before .before .before .pre .0),
-  of-row _ (c .before .before .before .before .node-word .ensures) (c .before .before .before .kind .ensures) (c .row-of10 .ensures)
-      (omega (arith, c .before .before .match .keys10)),
+  of-row _ (c .before .before .before .before .node-word .ensures) (c .before .before .before .kind .ensures)
+      (c .row-of10 .ensures) (omega (arith, c .before .before .match .keys12)) (omega arith),
 )
 
 node-fields-requires-11 : (t : ℕ) → node-lts.Need-fields-requires-11 (node-calls t) (node-at t) node.Post
 node-fields-requires-11 t c κs = (
   omega (arith, c .before .before .before .before .before .before .pre .0),
-  of-row _ (c .before .before .before .before .node-word .ensures) (c .before .before .before .kind .ensures) (c .row-of11 .ensures)
-      (omega (arith, c .before .before .match .keys11)),
+  of-row _ (c .before .before .before .before .node-word .ensures) (c .before .before .before .kind .ensures)
+      (c .row-of11 .ensures) (omega (arith, c .before .before .match .keys13)) (omega arith),
 )
 
-node-fields-requires-12 : (t : ℕ) → node-lts.Need-fields-requires-12 (node-calls t) (node-at t) node.Post
-node-fields-requires-12 t c κs = (
-  omega (arith, c .before .before .before .before .before .before .pre .0),
-  of-row _ (c .before .before .before .before .node-word .ensures) (c .before .before .before .kind .ensures) (c .row-of12 .ensures)
-      (omega (arith, c .before .before .match .keys12)),
-)
+node-returns : (t : ℕ) → node-lts.Need-returns (node-calls t) (node-at t) node.Post
+node-returns t c =
+    at-constant (c .before .before .before .node-word .ensures) (c .before .before .kind .ensures) (omega (arith, c .before .match .keys1)) (c .typed .ensures)
 
-node-fields-requires-13 : (t : ℕ) → node-lts.Need-fields-requires-13 (node-calls t) (node-at t) node.Post
-node-fields-requires-13 t c κs = (
-  omega (arith, c .before .before .before .before .before .before .pre .0),
-  of-row _ (c .before .before .before .before .node-word .ensures) (c .before .before .before .kind .ensures) (c .row-of13 .ensures)
-      (omega (arith, c .before .before .match .keys13)),
-)
+node-returns-2 : (t : ℕ) → node-lts.Need-returns-2 (node-calls t) (node-at t) node.Post
+node-returns-2 t c =
+    at-variable (c .before .before .before .before .before .before .node-word .ensures) (c .before .before .before .before .before .kind .ensures) (omega (arith, c .before .before .before .before .match .keys2)) (c .before .name-a .ensures) (c .variable .ensures)
 
 node-returns-14 : (t : ℕ) → node-lts.Need-returns-14 (node-calls t) (node-at t) node.Post
-unfolding NotBelow
+unfolding NotAmong
 node-returns-14 t c = at-no-kind (c .before .before .before .node-word .ensures) (c .before .before .kind .ensures) (c .before .match .rest)
 
 pub +child+field+fields+node-spec : {M : Type 1} → statement M
@@ -280,9 +283,10 @@ pub +child+field+fields+node-spec : {M : Type 1} → statement M
     (λ t.
     fields-lts.spec (fields-calls t) (fields-at t) fields.Post (λ c κs. search needs) (λ c κs. search needs) (λ c κs. search needs) (λ c κs. search needs)
     (λ c κs. search needs) (fields-field-requires t) (λ c κs. search needs) (fields-field-requires-2 t) (λ c κs. search needs)
-    (fields-field-requires-3 t) (λ c κs. search needs) (fields-returns t))
+    (fields-field-requires-3 t) (fields-rule-requires t) (fields-returns t))
     (λ t.
     node-lts.spec (node-calls t) (node-at t) node.Post (λ c κs. search needs) (λ c κs. search needs)
+    (λ c κs. search needs) (λ c κs. search needs) (λ c κs. search needs)
     (λ c κs. search needs) (node-fields-requires t)
     (λ c κs. search needs) (node-fields-requires-2 t)
     (λ c κs. search needs) (node-fields-requires-3 t)
@@ -294,9 +298,9 @@ pub +child+field+fields+node-spec : {M : Type 1} → statement M
     (λ c κs. search needs) (node-fields-requires-9 t)
     (λ c κs. search needs) (node-fields-requires-10 t)
     (λ c κs. search needs) (node-fields-requires-11 t)
-    (λ c κs. search needs) (node-fields-requires-12 t)
-    (λ c κs. search needs) (node-fields-requires-13 t)
     (λ c κs. search needs)
+    (node-returns t)
+    (node-returns-2 t)
     (λ c. c .fields .ensures)
     (λ c. c .fields2 .ensures)
     (λ c. c .fields3 .ensures)
@@ -308,6 +312,4 @@ pub +child+field+fields+node-spec : {M : Type 1} → statement M
     (λ c. c .fields9 .ensures)
     (λ c. c .fields10 .ensures)
     (λ c. c .fields11 .ensures)
-    (λ c. c .fields12 .ensures)
-    (λ c. c .fields13 .ensures)
     (node-returns-14 t))
