@@ -23,7 +23,7 @@ use Rattle.annotation.specs.Answers.{pick, typeAnswer}
 use Rattle.annotation.specs.Walks.{Lent, Pair, bound, Pushed, Binds, Entered, entered, passed-over, parameterBy, Answers, ChildAnswers, FieldAnswers, typed-child, not-visited, RowOf, Stand, none-left, child-then, other-then, places, Ruled}
 use Rattle.annotation.proofs.Trees.{Below, wordNode, kind-below, word-drawn, row-use}
 use Rattle.annotation.proofs.Contexts.{binds-kept, kept-then, binds-more}
-use Rattle.annotation.proofs.Rules.{NotAmong, past-all, constant-ruled, variable-ruled}
+use Rattle.annotation.proofs.Rules.{constant-ruled, variable-ruled}
 
 -- ---- a field that may be a binder
 
@@ -121,11 +121,10 @@ module _ {words ts before pushed after : List ℕ} {d inner i w p e f g : ℕ} {
         (record { known = kind-below l h o; name = refl; parameter = rw (← us-row) param; listed = k; fields = rw (← us-row, ← param) st }));
   }
 
--- the row that the code reads at a kind's number is that of the node's kind
+-- the row that the code reads is that of the node's kind
 pub of-row :
-    {words : List ℕ} {i w k : ℕ} {row : Row} (n : ℕ) → w ≡ getD words i 0 → k ≡ wordKind w → row ≡ rowAt n → k ≡ n → 2 ≤ n →
-    RowOf words i w row
-of-row n o e r q m = record { word = o; row = rw (← e, q) r; inner = omega arith }
+    {words : List ℕ} {i w k : ℕ} {row : Row} → w ≡ getD words i 0 → k ≡ wordKind w → row ≡ rowAt k → 2 ≤ k → RowOf words i w row
+of-row o e r m = record { word = o; row = rw e at r; inner = omega arith }
 
 -- Theorem: the answer of a node whose fields are answered, each by its use in the table's row.
 pub at-fields :
@@ -161,16 +160,6 @@ pub at-variable :
     (d ≤ length stack → r ≡ bound stack x i d) → Answers words ts stack stack d i r
 unfolding rows
 at-variable o e q x y = at-leaf Name refl refl o (rw (← e, q)) (variable-ruled e q x y)
-
--- a kind past the table
-pub at-no-kind :
-    {words ts stack : List ℕ} {d i w k r : ℕ} → w ≡ getD words i 0 → k ≡ wordKind w → NotAmong 0 13 k → Answers words ts stack stack d i r
-at-no-kind {k} o q n = record {
-  kept = kept-all _ _;
-  reply = λ s Γ l b h room.
-      let z : ⊥ = omega (arith, past-all 0 13 k (omega arith) n, kind-below l h o) in
-      absurd z;
-}
 
 -- ---- a child
 

@@ -12,7 +12,7 @@ use script::Verdict;
 use script::column::type_at;
 use script::kinds::is_binder;
 use script::kinds::is_child;
-use script::kinds::row_of;
+use script::kinds::own_row;
 use script::limits::MAX_HEIGHT;
 use script::limits::MAX_INPUTS;
 use script::limits::MAX_TYPES;
@@ -310,21 +310,11 @@ fn node(
     ensures { λ r. ⌜ Answers (now (now (nodes .entry))) (now (types .entry)) (now (stack .entry)) (now (stack .exit)) depth (i .0) r ⌝ }
 {
     let w = node_word(*nodes, i);
-    match kind(w) {
+    let k = kind(w);
+    match k {
         0 => typed(STATIC),
         1 => variable(stack, depth, i, name_a(w)),
-        2 => fields(nodes, types, stack, depth, i, w, row_of(2)),
-        3 => fields(nodes, types, stack, depth, i, w, row_of(3)),
-        4 => fields(nodes, types, stack, depth, i, w, row_of(4)),
-        5 => fields(nodes, types, stack, depth, i, w, row_of(5)),
-        6 => fields(nodes, types, stack, depth, i, w, row_of(6)),
-        7 => fields(nodes, types, stack, depth, i, w, row_of(7)),
-        8 => fields(nodes, types, stack, depth, i, w, row_of(8)),
-        9 => fields(nodes, types, stack, depth, i, w, row_of(9)),
-        10 => fields(nodes, types, stack, depth, i, w, row_of(10)),
-        11 => fields(nodes, types, stack, depth, i, w, row_of(11)),
-        12 => fields(nodes, types, stack, depth, i, w, row_of(12)),
-        _ => typed(STATIC),
+        _ => fields(nodes, types, stack, depth, i, w, own_row(k)),
     }
 }
 

@@ -12,6 +12,7 @@ use Rattle.lambdamix.specs.declared.Use.the-variants.{Nothing}
 use Rattle.lambdamix.specs.Script.{Row, Node, rows, rowOf, blankRow}
 use Rattle.lambdamix.proofs.Tests.{and-both}
 use Rattle.script.specs.Kinds.{useOf, usesTable}
+use Rattle.script.specs.KindRows.{rowAt}
 
 -- a test passes at each entry of a table
 unfoldable pub every : {A : Type 0} → (A → Bool) → List A → Bool
@@ -28,6 +29,13 @@ at-every p d (x ∷ xs) h e (suc k) = at-every p d xs h (and-both (p x) (every p
 pub past-rows : (k j : ℕ) → 13 ≤ k → useOf k j ≡ Nothing
 unfolding useOf usesTable rows
 past-rows k j h = ap (λ (us : List Use). getD us j Nothing) (List·getD-eq-default usesTable [] h)
+
+-- past the table every row is the same
+pub past-kinds : (k : ℕ) → 13 ≤ k → rowAt k ≡ rowAt 13
+unfolding rowAt
+past-kinds k h =
+    rw (past-rows k 0 h, past-rows k 1 h, past-rows k 2 h)
+    (rw (past-rows 13 0 (omega arith), past-rows 13 1 (omega arith), past-rows 13 2 (omega arith)))
 
 three-fields : (k : ℕ) → length (getD usesTable k []) ≤ 3
 unfolding usesTable rows every

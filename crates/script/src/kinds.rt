@@ -42,6 +42,28 @@ pub fn row_of(kind: u8) -> Row
     Row(use_of(kind, 0), use_of(kind, 1), use_of(kind, 2))
 }
 
+// The row of a node's own kind: one arm for each kind, which reads the row of that literal kind.
+pub fn own_row(kind: u16) -> Row
+    ensures { λ r. ⌜ r ≡ rowAt kind ⌝ }
+{
+    match kind {
+        0 => row_of(0),
+        1 => row_of(1),
+        2 => row_of(2),
+        3 => row_of(3),
+        4 => row_of(4),
+        5 => row_of(5),
+        6 => row_of(6),
+        7 => row_of(7),
+        8 => row_of(8),
+        9 => row_of(9),
+        10 => row_of(10),
+        11 => row_of(11),
+        12 => row_of(12),
+        _ => row_of(13),
+    }
+}
+
 // What a use asks of a walk.
 pub fn is_child(u: Use) -> bool
     ensures { λ r. ⌜ r ≡ isChild u ⌝ }

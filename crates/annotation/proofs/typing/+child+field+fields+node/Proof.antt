@@ -5,8 +5,7 @@ use Prim.Native.Nat.{ℕ, _+_, _*_, _<_}
 use borrow.Fn.Kinds.{In}
 use borrow.Fn.PlainCycle.{Measures, is, falls, and}
 use native.Mathlib.Omega.{arith}
-use Rattle.annotation.proofs.Rules.{NotAmong}
-use Rattle.annotation.proofs.Recursion.{of-row, at-fields, at-constant, at-variable, at-no-kind, at-child-field, at-other-field, at-child, no-smaller}
+use Rattle.annotation.proofs.Recursion.{of-row, at-fields, at-constant, at-variable, at-child-field, at-other-field, at-child, no-smaller}
 use Rattle.annotation.proofs.typing.child.Reads as child
 use Rattle.annotation.proofs.typing.child.Kinds as child-kinds
 use Rattle.annotation.proofs.typing.+child+field+fields+node.Lts-child as child-lts
@@ -25,7 +24,7 @@ use Rattle.annotation.proofs.typing.parameter.Reads as parameter-reads
 use Rattle.annotation.proofs.typing.rule.Reads as rule-reads
 use Rattle.annotation.proofs.typing.typed.Reads as typed-reads
 use Rattle.annotation.proofs.typing.variable.Reads as variable-reads
-use Rattle.script.proofs.kinds.row_of.Reads as row-of-reads
+use Rattle.script.proofs.kinds.own_row.Reads as own-row-reads
 use Rattle.script.proofs.word.child_a.Reads as child-a-reads
 use Rattle.script.proofs.word.child_b.Reads as child-b-reads
 use Rattle.script.proofs.word.child_c.Reads as child-c-reads
@@ -125,8 +124,8 @@ node-calls t = (
   name-a-reads.Learnt,
   variable-reads.Asked,
   variable-reads.Learnt,
-  row-of-reads.Asked,
-  row-of-reads.Learnt,
+  own-row-reads.Asked,
+  own-row-reads.Learnt,
   fields-below t,
   fields.Post,
 )
@@ -187,78 +186,7 @@ fields-returns t c =
 node-fields-requires : (t : ℕ) → node-lts.Need-fields-requires (node-calls t) (node-at t) node.Post
 node-fields-requires t c κs = (
   omega (arith, c .before .before .before .before .before .before .pre .0),
-  of-row _ (c .before .before .before .before .node-word .ensures) (c .before .before .before .kind .ensures)
-      (c .row-of .ensures) (omega (arith, c .before .before .match .keys3)) (omega arith),
-)
-
-node-fields-requires-2 : (t : ℕ) → node-lts.Need-fields-requires-2 (node-calls t) (node-at t) node.Post
-node-fields-requires-2 t c κs = (
-  omega (arith, c .before .before .before .before .before .before .pre .0),
-  of-row _ (c .before .before .before .before .node-word .ensures) (c .before .before .before .kind .ensures)
-      (c .row-of2 .ensures) (omega (arith, c .before .before .match .keys4)) (omega arith),
-)
-
-node-fields-requires-3 : (t : ℕ) → node-lts.Need-fields-requires-3 (node-calls t) (node-at t) node.Post
-node-fields-requires-3 t c κs = (
-  omega (arith, c .before .before .before .before .before .before .pre .0),
-  of-row _ (c .before .before .before .before .node-word .ensures) (c .before .before .before .kind .ensures)
-      (c .row-of3 .ensures) (omega (arith, c .before .before .match .keys5)) (omega arith),
-)
-
-node-fields-requires-4 : (t : ℕ) → node-lts.Need-fields-requires-4 (node-calls t) (node-at t) node.Post
-node-fields-requires-4 t c κs = (
-  omega (arith, c .before .before .before .before .before .before .pre .0),
-  of-row _ (c .before .before .before .before .node-word .ensures) (c .before .before .before .kind .ensures)
-      (c .row-of4 .ensures) (omega (arith, c .before .before .match .keys6)) (omega arith),
-)
-
-node-fields-requires-5 : (t : ℕ) → node-lts.Need-fields-requires-5 (node-calls t) (node-at t) node.Post
-node-fields-requires-5 t c κs = (
-  omega (arith, c .before .before .before .before .before .before .pre .0),
-  of-row _ (c .before .before .before .before .node-word .ensures) (c .before .before .before .kind .ensures)
-      (c .row-of5 .ensures) (omega (arith, c .before .before .match .keys7)) (omega arith),
-)
-
-node-fields-requires-6 : (t : ℕ) → node-lts.Need-fields-requires-6 (node-calls t) (node-at t) node.Post
-node-fields-requires-6 t c κs = (
-  omega (arith, c .before .before .before .before .before .before .pre .0),
-  of-row _ (c .before .before .before .before .node-word .ensures) (c .before .before .before .kind .ensures)
-      (c .row-of6 .ensures) (omega (arith, c .before .before .match .keys8)) (omega arith),
-)
-
-node-fields-requires-7 : (t : ℕ) → node-lts.Need-fields-requires-7 (node-calls t) (node-at t) node.Post
-node-fields-requires-7 t c κs = (
-  omega (arith, c .before .before .before .before .before .before .pre .0),
-  of-row _ (c .before .before .before .before .node-word .ensures) (c .before .before .before .kind .ensures)
-      (c .row-of7 .ensures) (omega (arith, c .before .before .match .keys9)) (omega arith),
-)
-
-node-fields-requires-8 : (t : ℕ) → node-lts.Need-fields-requires-8 (node-calls t) (node-at t) node.Post
-node-fields-requires-8 t c κs = (
-  omega (arith, c .before .before .before .before .before .before .pre .0),
-  of-row _ (c .before .before .before .before .node-word .ensures) (c .before .before .before .kind .ensures)
-      (c .row-of8 .ensures) (omega (arith, c .before .before .match .keys10)) (omega arith),
-)
-
-node-fields-requires-9 : (t : ℕ) → node-lts.Need-fields-requires-9 (node-calls t) (node-at t) node.Post
-node-fields-requires-9 t c κs = (
-  omega (arith, c .before .before .before .before .before .before .pre .0),
-  of-row _ (c .before .before .before .before .node-word .ensures) (c .before .before .before .kind .ensures)
-      (c .row-of9 .ensures) (omega (arith, c .before .before .match .keys11)) (omega arith),
-)
-
-node-fields-requires-10 : (t : ℕ) → node-lts.Need-fields-requires-10 (node-calls t) (node-at t) node.Post
-node-fields-requires-10 t c κs = (
-  omega (arith, c .before .before .before .before .before .before .pre .0),
-  of-row _ (c .before .before .before .before .node-word .ensures) (c .before .before .before .kind .ensures)
-      (c .row-of10 .ensures) (omega (arith, c .before .before .match .keys12)) (omega arith),
-)
-
-node-fields-requires-11 : (t : ℕ) → node-lts.Need-fields-requires-11 (node-calls t) (node-at t) node.Post
-node-fields-requires-11 t c κs = (
-  omega (arith, c .before .before .before .before .before .before .pre .0),
-  of-row _ (c .before .before .before .before .node-word .ensures) (c .before .before .before .kind .ensures)
-      (c .row-of11 .ensures) (omega (arith, c .before .before .match .keys13)) (omega arith),
+  of-row (c .before .before .before .before .node-word .ensures) (c .before .before .before .kind .ensures) (c .own-row .ensures) (omega (arith, c .before .before .match .rest .1, c .before .before .match .rest .0 .1)),
 )
 
 node-returns : (t : ℕ) → node-lts.Need-returns (node-calls t) (node-at t) node.Post
@@ -268,10 +196,6 @@ node-returns t c =
 node-returns-2 : (t : ℕ) → node-lts.Need-returns-2 (node-calls t) (node-at t) node.Post
 node-returns-2 t c =
     at-variable (c .before .before .before .before .before .before .node-word .ensures) (c .before .before .before .before .before .kind .ensures) (omega (arith, c .before .before .before .before .match .keys2)) (c .before .name-a .ensures) (c .variable .ensures)
-
-node-returns-14 : (t : ℕ) → node-lts.Need-returns-14 (node-calls t) (node-at t) node.Post
-unfolding NotAmong
-node-returns-14 t c = at-no-kind (c .before .before .before .node-word .ensures) (c .before .before .kind .ensures) (c .before .match .rest)
 
 pub +child+field+fields+node-spec : {M : Type 1} → statement M
 +child+field+fields+node-spec =
@@ -285,31 +209,6 @@ pub +child+field+fields+node-spec : {M : Type 1} → statement M
     (λ c κs. search needs) (fields-field-requires t) (λ c κs. search needs) (fields-field-requires-2 t) (λ c κs. search needs)
     (fields-field-requires-3 t) (fields-rule-requires t) (fields-returns t))
     (λ t.
-    node-lts.spec (node-calls t) (node-at t) node.Post (λ c κs. search needs) (λ c κs. search needs)
-    (λ c κs. search needs) (λ c κs. search needs) (λ c κs. search needs)
-    (λ c κs. search needs) (node-fields-requires t)
-    (λ c κs. search needs) (node-fields-requires-2 t)
-    (λ c κs. search needs) (node-fields-requires-3 t)
-    (λ c κs. search needs) (node-fields-requires-4 t)
-    (λ c κs. search needs) (node-fields-requires-5 t)
-    (λ c κs. search needs) (node-fields-requires-6 t)
-    (λ c κs. search needs) (node-fields-requires-7 t)
-    (λ c κs. search needs) (node-fields-requires-8 t)
-    (λ c κs. search needs) (node-fields-requires-9 t)
-    (λ c κs. search needs) (node-fields-requires-10 t)
-    (λ c κs. search needs) (node-fields-requires-11 t)
-    (λ c κs. search needs)
-    (node-returns t)
-    (node-returns-2 t)
-    (λ c. c .fields .ensures)
-    (λ c. c .fields2 .ensures)
-    (λ c. c .fields3 .ensures)
-    (λ c. c .fields4 .ensures)
-    (λ c. c .fields5 .ensures)
-    (λ c. c .fields6 .ensures)
-    (λ c. c .fields7 .ensures)
-    (λ c. c .fields8 .ensures)
-    (λ c. c .fields9 .ensures)
-    (λ c. c .fields10 .ensures)
-    (λ c. c .fields11 .ensures)
-    (node-returns-14 t))
+    node-lts.spec (node-calls t) (node-at t) node.Post (λ c κs. search needs) (λ c κs. search needs) (λ c κs. search needs)
+    (λ c κs. search needs) (λ c κs. search needs) (λ c κs. search needs) (node-fields-requires t) (node-returns t) (node-returns-2 t)
+    (λ c. c .fields .ensures))
