@@ -10,7 +10,6 @@ use Rattle.lambdamix.specs.Script.{Node}
 use Rattle.lambdamix.specs.Text.{digits}
 use Rattle.script.specs.declared.Row.{Row}
 use Rattle.script.specs.KindRows.{rowAt}
-use Rattle.script.proofs.TableLaws.{past-rows}
 use Rattle.lambdamix.proofs.Falling.{falling-step, below-at, below-out}
 use Rattle.printer.specs.declared.Word.{Word}
 use Rattle.printer.specs.Places.{Placed}
@@ -24,13 +23,6 @@ module _ (n : ℕ) (d : List ℕ) (f : ℕ → List ℕ) (m : ℕ) {at e : ℕ} 
 
   pub no-child-placed : n ≤ m → Placed d at x y e → Placed (below n d f m) at x y e
   no-child-placed h p = rw (below-out n d f m h) p
-
--- past the table every row is the same
-pub past-kinds : (k : ℕ) → 13 ≤ k → rowAt k ≡ rowAt 13
-unfolding rowAt
-past-kinds k h =
-    rw (past-rows k 0 h, past-rows k 1 h, past-rows k 2 h)
-    (rw (past-rows 13 0 (omega arith), past-rows 13 1 (omega arith), past-rows 13 2 (omega arith)))
 
 -- one step
 pub node-step :

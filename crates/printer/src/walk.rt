@@ -14,12 +14,11 @@ use script::Name;
 use script::NodeNumber;
 use script::Row;
 use script::column;
-use script::kinds::row_of;
+use script::kinds::own_row;
 use script::place::root;
 ghost use mathlib.Core.Path.{_≡_};
 ghost use mathlib.Core.List.{_++_};
 ghost use Rattle.lambdamix.specs.Listing.{nameText};
-ghost use Rattle.script.specs.KindRows.{rowAt};
 ghost use Rattle.printer.specs.Places.{Placed};
 ghost use Rattle.printer.specs.Nodes.{framed, wordText, fieldText, columnText, childText, wholeText};
 
@@ -46,28 +45,6 @@ fn put_name(out: &mut [u8], w: Word, inputs: u16, x: Name) -> usize
     part_at(out, next, words::name(inputs, x))
 }
 
-// The row of a kind, read at a literal: the compiler folds the table.
-fn row(kind: u8) -> Row
-    ensures { λ r. ⌜ r ≡ rowAt kind ⌝ }
-{
-    match kind {
-        0 => row_of(0),
-        1 => row_of(1),
-        2 => row_of(2),
-        3 => row_of(3),
-        4 => row_of(4),
-        5 => row_of(5),
-        6 => row_of(6),
-        7 => row_of(7),
-        8 => row_of(8),
-        9 => row_of(9),
-        10 => row_of(10),
-        11 => row_of(11),
-        12 => row_of(12),
-        _ => row_of(13),
-    }
-}
-
 // The text of node i.
 fn node(
     kinds: &[u8],
@@ -87,7 +64,7 @@ fn node(
     let x = column::at16(a, n);
     let y = column::at16(b, n);
     let z = column::at16(c, n);
-    let uses = row(kind);
+    let uses = own_row(kind as u16);
     let u = uses.0;
     let v = uses.1;
     let t = uses.2;

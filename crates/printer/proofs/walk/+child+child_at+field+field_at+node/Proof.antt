@@ -33,7 +33,7 @@ use Rattle.printer.proofs.parts.put_part.Reads as put-part-reads
 use Rattle.printer.proofs.walk.put_frame.Reads as put-frame-reads
 use Rattle.printer.proofs.walk.put_head.Reads as put-head-reads
 use Rattle.printer.proofs.walk.put_name.Reads as put-name-reads
-use Rattle.printer.proofs.walk.row.Reads as row-reads
+use Rattle.script.proofs.kinds.own_row.Reads as own-row-reads
 use Rattle.printer.proofs.words.frame.Reads as frame-reads
 use Rattle.printer.proofs.words.word_of.Reads as word-of-reads
 use Rattle.script.proofs.column.at16.Reads as at16-reads
@@ -115,8 +115,8 @@ node-given t = (
   word-of-reads.Learnt,
   at16-reads.Asked,
   at16-reads.Learnt,
-  row-reads.Asked,
-  row-reads.Learnt,
+  own-row-reads.Asked,
+  own-row-reads.Learnt,
   at32-reads.Asked,
   at32-reads.Learnt,
   put-head-reads.Asked,
@@ -209,7 +209,7 @@ node-returns t c =
     (h .before .before .before .before .at163 .ensures)
     (toZ-ofZ (record { sfits = h .before .at32 .ok }) ∙ h .before .at32 .ensures)
     (h .before .before .before .before .before .before .before .word-of .ensures)
-    (h .before .before .before .row .ensures)
+    (h .before .before .before .own-row .ensures)
     (h .put-head .ensures)
     (f .before .before .before .before .field-at .ensures)
     (f .field-at2 .ensures)
@@ -279,6 +279,7 @@ pub +child+child-at+field+field-at+node-spec : {M : Type 1} → statement M
     (λ c κs. search needs)
     (λ c κs. search needs)
     (λ c κs. search needs)
+    (λ c. search needs)
     (λ c κs. search needs)
     (λ c κs. search needs)
     (λ c κs. search needs)
