@@ -19,8 +19,8 @@ use Rattle.script.specs.Refusals.{inputFits}
 use Rattle.annotation.specs.Answers.{pick, limit16, faultLimit, faultAnswer, typeBase, typeAnswer, typeIn, meaning, Stands, givenBy}
 use Rattle.annotation.specs.Walks.{Pair, Binds, no-binder, one-more, bound, Pushed}
 use Rattle.script.proofs.Sound.{Sound}
-use Rattle.tables.specs.Walks.{Kept}
-use Rattle.tables.proofs.Scopes.{kept-all}
+use Rattle.walks.specs.Walks.{Kept}
+use Rattle.walks.proofs.Scopes.{kept-all}
 use Rattle.annotation.proofs.TypeNumbers.{type-zero, type-one}
 
 -- ---- answers

@@ -22,8 +22,8 @@ use Rattle.lambdamix.proofs.Tests.{and-both, or-left, or-right, holds-or-fails}
 use Rattle.script.specs.Refusals.{fieldRight, fieldsRight, nodeFits}
 use Rattle.script.specs.Kinds.{useOf}
 use Rattle.script.specs.Words.{wordKind, wordA, wordB, wordC, Holds}
-use Rattle.tables.proofs.TreeForms.{All, high-row, heights-gathered}
-use Rattle.tables.proofs.Agreement.{children-fall}
+use Rattle.walks.proofs.TreeForms.{All, high-row, heights-gathered}
+use Rattle.walks.proofs.Agreement.{children-fall}
 use Rattle.annotation.specs.Walks.{Lent, parameterBy, parameterType}
 use Rattle.script.proofs.Sound.{Sound, sound}
 use Rattle.script.proofs.TableLaws.{row-uses}

@@ -25,7 +25,7 @@ use Rattle.script.specs.Tables.{rowNode, tablesOf}
 use Rattle.script.specs.Replies.{refusalOf}
 use Rattle.script.specs.KindRows.{rowAt}
 use Rattle.script.specs.Words.{wordKind, Packed}
-use Rattle.tables.specs.Walks.{Kept}
+use Rattle.walks.specs.Walks.{Kept}
 use Rattle.annotation.specs.Answers.{scriptOf, Passes, pick, highHalf, lowHalf, typeAnswer, faultAnswer, Stands}
 
 -- two numbers of 16 bits in a word of 32

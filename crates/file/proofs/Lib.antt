@@ -1,14 +1,8 @@
-pub mod WordLaws
 pub mod ByteLaws
 pub mod RecordLaws
 pub mod Layouts
 pub mod FileLaws
 pub mod WriterRefusals
-pub mod Filling
-pub mod MarkLaws
-pub mod HeadLaws
-pub mod FillLaws
-pub mod ReaderLaws
 pub mod WritingLaws
 pub mod WriterLaws
 pub mod WrittenContent

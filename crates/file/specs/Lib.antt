@@ -1,4 +1,3 @@
-pub mod Heads
 pub mod Encodable
 pub mod Written
 pub mod AcceptedFile

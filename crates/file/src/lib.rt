@@ -1,6 +1,2 @@
-// The script file: reader and writer. Refusals 1 to 8 and 21.
-pub mod bytes;
-mod fill;
-pub mod marks;
-pub mod reader;
+// The script file: its writer, and the laws of its bytes. Refusals 1 to 8 and 21.
 pub mod writer;

@@ -30,7 +30,7 @@ use Rattle.script.specs.Refusals.{scriptRefusal}
 use Rattle.script.specs.Tables.{Tables, tablesRefusal, roomRefusal}
 use Rattle.script.proofs.RefusalLaws.{neither}
 use Rattle.script.proofs.Sound.{Sound, sound}
-use Rattle.tables.proofs.Agreement.{children-fall}
+use Rattle.walks.proofs.Agreement.{children-fall}
 use Rattle.printer.specs.Nodes.{nodesText}
 use Rattle.printer.specs.Answers.{tablesText, listRefusal, ListsTables}
 use Rattle.printer.proofs.NodeLaws.{node-step}

@@ -22,7 +22,7 @@ use Rattle.script.specs.Tables.{Tables, filled, longEnough, readRefusal, readTa
 use Rattle.script.specs.Replies.{headCounts, reading, Reads}
 use Rattle.script.proofs.ReplyLaws.{read-answer}
 use Rattle.script.proofs.Sound.{in-limits}
-use Rattle.file.proofs.FillLaws.{file-held, filled-long}
+use Rattle.reading.proofs.FillLaws.{file-held, filled-long}
 use Rattle.file.proofs.FileLaws.{read-fits, script-counts, script-passes}
 use Rattle.printer.specs.Answers.{tablesText}
 use Rattle.printer.proofs.Writing.{join}

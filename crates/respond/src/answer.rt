@@ -3,7 +3,7 @@ use crate::Response;
 use crate::limits::MAX_BYTES;
 use crate::split::script_end;
 use crate::stage::answer_script;
-use file::reader::read;
+use reading::reader::read;
 use script::Refusal;
 use script::limits::MAX_INPUTS;
 use script::limits::MAX_NODES;

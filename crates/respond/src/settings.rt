@@ -1,7 +1,7 @@
 // The settings behind a script: a record `SV` for each.
 use crate::limits::SETTINGS;
-use file::bytes::value32;
-use file::marks::marked;
+use reading::bytes::value32;
+use reading::marks::marked;
 use script::column::put32;
 ghost use mathlib.Core.Path.{_≡_};
 ghost use Prim.Native.Nat.{_<_, _≤_};

@@ -1,7 +1,7 @@
 // Where the script ends in an input and the settings begin.
-use file::marks::marked;
-use file::reader::head_counts;
 use printer::parts::least;
+use reading::marks::marked;
+use reading::reader::head_counts;
 use script::limits::counts_right;
 use script::place::file_size;
 ghost use mathlib.Core.Path.{_≡_};

@@ -1,7 +1,7 @@
 // The reader.
 use crate::Counts;
 use crate::ReadReply;
-use file::reader::read;
+use reading::reader::read;
 use script::Reading;
 ghost use mathlib.Core.Path.{_≡_};
 ghost use Rattle.script.specs.Replies.{readingReply};

@@ -21,12 +21,12 @@ use Rattle.lambdamix.proofs.Falling.{below-at, falling-step}
 use Rattle.lambdamix.proofs.Structure.{occurs-member}
 use Rattle.script.specs.File.{scriptIn}
 use Rattle.script.specs.Refusals.{contentRefusal, scriptRefusal, bodyRefusal, fileRefusal}
-use Rattle.tables.specs.Walks.{gathered}
+use Rattle.walks.specs.Walks.{gathered}
 use Rattle.tables.specs.Reached.{walked, EachReachedOnce}
 use Rattle.script.proofs.RefusalLaws.{neither, no-earlier, no-node, passes}
 use Rattle.tables.proofs.ScriptLaws.{nodes-right}
-use Rattle.tables.proofs.TreeForms.{All, at-all}
-use Rattle.tables.proofs.Agreement.{children-fall}
+use Rattle.walks.proofs.TreeForms.{All, at-all}
+use Rattle.walks.proofs.Agreement.{children-fall}
 
 -- ---- counting in lists
 

@@ -21,7 +21,7 @@ use Rattle.script.specs.Refusals.{typeFits, inputFits, nodeFits, otherPair, sam
 use Rattle.script.specs.Tables.{Tables, rowType, rowInput, rowNode, tablesScript, longEnough, tablesRefusal, tablesOf, contentIn}
 use Rattle.script.specs.Columns.{enough}
 use Rattle.script.specs.Words.{Packed}
-use Rattle.tables.specs.Walks.{Structured}
+use Rattle.walks.specs.Walks.{Structured}
 use Rattle.script.specs.Replies.{foundAt, refusalOf}
 use Rattle.script.specs.declared.Found.{Found}
 use Rattle.script.specs.declared.Refusal as Refused

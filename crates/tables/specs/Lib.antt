@@ -1,3 +1,2 @@
-pub mod Walks
 pub mod Reached
 pub mod PackedTables

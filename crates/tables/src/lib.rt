@@ -2,4 +2,3 @@
 mod content;
 mod records;
 pub mod refusal;
-mod structure;

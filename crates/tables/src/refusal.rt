@@ -1,11 +1,11 @@
 // The check of counts and tables: refusals 1 to 8.
 use crate::content::content_refusal;
-use crate::structure::structure_refusal;
 use script::Counts;
 use script::Refusal;
 use script::Verdict;
 use script::limits::FEW_NODES;
 use script::limits::MAX_NODES;
+use walks::structure::structure_refusal;
 ghost use mathlib.Core.Path.{_≡_};
 ghost use mathlib.Core.Bool.{_&&_};
 ghost use Prim.Native.Nat.{min, _≤_};

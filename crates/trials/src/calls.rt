@@ -4,7 +4,7 @@
 use crate::print;
 use crate::task::Task;
 use crate::task::try_file;
-use file::bytes;
+use reading::bytes;
 use respond::limits::MAX_BYTES;
 use script::Counts;
 use script::column;

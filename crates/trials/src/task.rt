@@ -1,6 +1,6 @@
 // A script file through the reader and, if it is read, through the checker or the maker.
 use annotation::check::check;
-use file::reader::read;
+use reading::reader::read;
 use script::Reading;
 use script::Verdict;
 use script::limits::MAX_INPUTS;

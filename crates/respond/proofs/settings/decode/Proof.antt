@@ -4,7 +4,7 @@ use mathlib.Core.Path.{_∙_}
 use native.Mathlib.Omega.{arith}
 use mir.Syntax.{w32}
 use mir.Facts.{toZ-ofZ}
-use Rattle.file.proofs.Filling.{Filling, fill-begins, fill-goes-on, fill-ends, fill-length}
+use Rattle.reading.proofs.Filling.{Filling, fill-begins, fill-goes-on, fill-ends, fill-length}
 use Rattle.respond.specs.Response.{programSettings, settingAt}
 use Rattle.lambdamix.specs.Limits.{maxInputs}
 use Rattle.respond.proofs.settings.decode.Statement.{statement}

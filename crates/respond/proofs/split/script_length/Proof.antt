@@ -2,7 +2,7 @@
 use mathlib.Core.Path.{refl, sym, _∙_}
 use native.Mathlib.Omega.{arith}
 use borrow.Author.Tests.{le-leb, lt-leb}
-use Rattle.file.proofs.HeadLaws.{counts-told, length-told}
+use Rattle.reading.proofs.HeadLaws.{counts-told, length-told}
 use Rattle.respond.specs.Response.{scriptLengthBy}
 use Rattle.respond.proofs.Splitting.{same-size, length-by}
 use Rattle.respond.proofs.split.script_length.Statement.{statement}

@@ -1,0 +1,39 @@
+-- `file::fill::fill8` meets its contract: the loop fills. Assumes nothing.
+use Prim.Native.Nat.{ℕ, _+_, _-_, _*_}
+use mathlib.Core.Path.{ap, _∙_}
+use native.Mathlib.Omega.{arith}
+use lib.ListN.{getD}
+use Rattle.script.specs.Bytes.{byteAt}
+use Rattle.reading.proofs.Filling.{Filling, fill-begins, fill-goes-on, fill-ends, fill-length}
+use Rattle.reading.proofs.fill.fill8.Statement.{statement}
+use Rattle.reading.proofs.fill.fill8.Tie as tie
+
+abbrev Inv-loop : tie.InvT-loop
+Inv-loop file first stride field count column₀ j₀ column j = Filling (λ k. byteAt file (first + stride * k + field)) column₀ j count column
+
+abbrev μ-loop : tie.MeasureT-loop
+μ-loop file first stride field count column₀ j₀ column j = count - j
+
+loop-again : tie.Need-loop-again Inv-loop μ-loop
+unfolding byteAt
+loop-again c =
+    fill-goes-on _ (c .before .before .before .before .before .before .before .loop .inv) (c .before .before .before .before .before .before .loop-test .taken)
+    (c .before .before .before .before .at8 .ensures ∙ ap (λ (k : ℕ). getD (c .before .before .before .before .before .before .before .before .before .before .args .file .now) k 0) (c .before .before .before .before .before .place .ensures))
+    (c .before .before .put8 .ensures)
+
+pub fill8-spec : {M : Type 1} → statement M
+fill8-spec =
+    tie.close
+    (tie.spec
+    Inv-loop
+    μ-loop
+    (λ c. fill-begins _ _ _ (omega arith))
+    (λ c κs. tt)
+    (λ c κs. tt)
+    (λ c. omega arith)
+    (λ c κs. tt)
+    (λ c. omega arith)
+    (λ c. omega arith)
+    loop-again
+    (λ c. fill-length _ (c .before .loop .inv))
+    (λ c. fill-ends _ (c .before .loop .inv) (c .loop-test .left)))

@@ -1,0 +1,42 @@
+-- `file::marks::mark_refusal` meets its contract: three searches, one after the other. Assumes nothing.
+use borrow.Author.Needs.{needs}
+use Rattle.script.specs.Refusals.{markRefusal}
+use Rattle.script.proofs.Verdicts.{told-first, told-then}
+use Rattle.reading.proofs.MarkLaws.{type-marks, input-marks, node-marks}
+use Rattle.reading.proofs.marks.mark_refusal.Statement.{statement}
+use Rattle.reading.proofs.marks.mark_refusal.Tie as tie
+
+returns : tie.Need-returns
+unfolding markRefusal
+returns c = told-first (type-marks _ _ _ (c .before .before .before .before .type-offset .ensures) (c .before .before .before .unmarked .ensures)) _ (c .before .f .given .1) (search needs)
+
+returns-2 : tie.Need-returns-2
+unfolding markRefusal
+returns-2 c =
+    told-then (type-marks _ _ _ (c .before .before .before .before .before .before .before .before .type-offset .ensures) (c .before .before .before .before .before .before .before .unmarked .ensures)) (c .before .before .before .before .before .enum-told .given .1)
+    (told-first (input-marks _ _ _ _ (c .before .before .before .before .input-offset .ensures) (c .before .before .before .unmarked2 .ensures)) _ (c .before .f2 .given .1) (search needs))
+
+returns-3 : tie.Need-returns-3
+unfolding markRefusal
+returns-3 c =
+    told-then (type-marks _ _ _ (c .before .before .before .before .before .before .before .before .before .type-offset .ensures) (c .before .before .before .before .before .before .before .before .unmarked .ensures)) (c .before .before .before .before .before .before .enum-told .given .1)
+    (told-then (input-marks _ _ _ _ (c .before .before .before .before .before .input-offset .ensures) (c .before .before .before .before .unmarked2 .ensures)) (c .before .before .enum-told2 .given .1)
+    (node-marks _ _ _ _ _ (c .before .node-offset .ensures) (c .unmarked3 .ensures)))
+
+pub mark-refusal-spec : {M : Type 1} → statement M
+mark-refusal-spec =
+    tie.close
+    (tie.spec
+    (λ c κs. tt)
+    (λ c κs. tt)
+    (λ c. search needs)
+    (λ c. search needs)
+    (λ c κs. tt)
+    (λ c κs. tt)
+    (λ c. search needs)
+    (λ c. search needs)
+    (λ c κs. tt)
+    (λ c κs. tt)
+    returns
+    returns-2
+    returns-3)

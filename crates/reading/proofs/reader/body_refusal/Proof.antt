@@ -1,0 +1,48 @@
+-- `file::reader::body_refusal` meets its contract: its own columns hold the file's script. Assumes nothing.
+use mathlib.Core.Path.{refl, sym}
+use Rattle.lambdamix.specs.Limits.{maxTypes, maxInputs, maxNodes}
+use Rattle.script.proofs.ReplyLaws.{told-by}
+use Rattle.reading.proofs.ReaderLaws.{own-fits, body-by-tables}
+use Rattle.reading.proofs.reader.body_refusal.Statement.{statement}
+use Rattle.reading.proofs.reader.body_refusal.Tie as tie
+
+fill-tables-requires : tie.Need-fill-tables-requires
+unfolding maxTypes maxInputs maxNodes
+fill-tables-requires c κs =
+    own-fits _ _ (c .before .before .before .before .before .before .before .before .before .head-counts .ensures) (c .before .before .before .before .before .before .before .before .before .before .before .pre) refl refl refl refl refl refl refl refl
+
+returns : tie.Need-returns
+unfolding maxTypes maxInputs maxNodes
+returns c =
+    let k = c .before .before .before .before .before .before .before .before .before .before .before .before .before .before .before .before .before .before .fill-tables .kept .1 .1 in
+    let n = c .before .before .before .before .before .before .before .before .before .before .before .before .before .before .before .before .before .before .before .before .before .before .before .before .before .before .before .before .head-counts .ensures in
+    body-by-tables _ n (c .before .before .before .before .before .before .before .before .before .before .before .before .before .before .before .before .before .before .before .before .before .before .before .before .before .before .before .before .before .before .pre) _ (c .before .before .before .before .before .before .before .before .before .before .before .before .before .before .before .before .before .before .fill-tables .ensures)
+    (own-fits _ _ n (c .before .before .before .before .before .before .before .before .before .before .before .before .before .before .before .before .before .before .before .before .before .before .before .before .before .before .before .before .before .before .pre) (k .0) (k .1 .0) (k .1 .1 .0) (k .1 .1 .1 .0) (k .1 .1 .1 .1 .0) (k .1 .1 .1 .1 .1 .0) (k .1 .1 .1 .1 .1 .1 .0) (k .1 .1 .1 .1 .1 .1 .1 .0))
+    (c .before .before .before .before .before .before .before .before .before .before .before .before .before .before .before .before .before .before .before .before .before .before .before .before .before .before .before .mark-refusal .ensures) (told-by (c .before .tables-refusal .ensures)) (c .marks-first .ensures)
+
+pub body-refusal-spec : {M : Type 1} → statement M
+body-refusal-spec =
+    tie.close
+    (tie.spec
+    (λ c κs. tt)
+    (λ c κs. tt)
+    (λ c. refl)
+    (λ c. refl)
+    (λ c. refl)
+    (λ c. refl)
+    (λ c. refl)
+    (λ c. refl)
+    (λ c. refl)
+    (λ c. refl)
+    fill-tables-requires
+    (λ c. sym (c .before .before .before .before .before .before .before .before .before .fill-tables .kept .1 .1 .0))
+    (λ c. sym (c .before .before .before .before .before .before .before .before .before .before .fill-tables .kept .1 .1 .1 .0))
+    (λ c. sym (c .before .before .before .before .before .before .before .before .before .before .before .fill-tables .kept .1 .1 .1 .1 .0))
+    (λ c. sym (c .before .before .before .before .before .before .before .before .before .before .before .before .fill-tables .kept .1 .1 .1 .1 .1 .0))
+    (λ c. sym (c .before .before .before .before .before .before .before .before .before .before .before .before .before .fill-tables .kept .1 .1 .1 .1 .1 .1 .0))
+    (λ c. sym (c .before .before .before .before .before .before .before .before .before .before .before .before .before .before .fill-tables .kept .1 .1 .1 .1 .1 .1 .1 .0))
+    (λ c. sym (c .before .before .before .before .before .before .before .before .before .before .before .before .before .before .before .fill-tables .kept .1 .1 .1 .1 .1 .1 .1 .1 .0))
+    (λ c. sym (c .before .before .before .before .before .before .before .before .before .before .before .before .before .before .before .before .fill-tables .kept .1 .1 .1 .1 .1 .1 .1 .1 .1 .0))
+    (λ c κs. tt)
+    (λ c κs. tt)
+    returns)

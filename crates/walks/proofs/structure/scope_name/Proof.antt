@@ -1,0 +1,25 @@
+-- `tables::structure::scope_name` meets its contract: the definition's tests in turn. Assumes nothing.
+use borrow.Author.Needs.{needs}
+use borrow.Author.Tests.{lt-ltb, le-ltb}
+use mathlib.Core.Path.{refl, sym, _∙_}
+use Rattle.lambdamix.specs.Structure.{unlessBound}
+use Rattle.walks.specs.Walks.{unboundName, same, node}
+use Rattle.walks.proofs.structure.scope_name.Statement.{statement}
+use Rattle.walks.proofs.structure.scope_name.Tie as tie
+
+returns : tie.Need-returns
+unfolding unboundName unlessBound
+returns c = rw (lt-ltb _ _ (c .if1 .taken)) (same refl)
+
+returns-2 : tie.Need-returns-2
+unfolding unboundName unlessBound
+returns-2 c = rw (le-ltb _ _ (c .before .before .if1 .left), sym (c .before .is-bound .ensures) ∙ c .if2 .taken) (same refl)
+
+returns-3 : tie.Need-returns-3
+unfolding unboundName unlessBound
+returns-3 c =
+    rw (le-ltb _ _ (c .before .before .before .if1 .left), sym (c .before .before .is-bound .ensures) ∙ c .before .if2 .left)
+    (node (c .before .before .before .before .before .pre .1) (c .lower .ensures))
+
+pub scope-name-spec : {M : Type 1} → statement M
+scope-name-spec = tie.close (tie.spec (λ c. search needs) returns (λ c κs. search needs) returns-2 (λ c κs. tt) returns-3)
