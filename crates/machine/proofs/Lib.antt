@@ -7,3 +7,7 @@ pub mod Lookup
 pub mod Sorts
 pub mod States
 pub mod Members
+pub mod Binding
+pub mod Zeros
+pub mod Inputs
+pub mod Root

@@ -1,2 +1,4 @@
+pub mod Room
 pub mod Machine
 pub mod Stores
+pub mod Start

@@ -18,7 +18,8 @@ use Rattle.script.specs.declared.Counts.{Counts}
 use Rattle.script.specs.File.{fileBytes, scriptIn}
 use Rattle.script.specs.Tables.{Tables}
 use Rattle.residual.specs.AfterRun.{Reply, made, unmade, Made, writtenBy, afterRun}
-use Rattle.specializer.specs.Making.{Stores, storesSuffice, refusalBefore, madeUnless, making}
+use Rattle.machine.specs.Room.{Stores, storesSuffice}
+use Rattle.specializer.specs.Making.{refusalBefore, madeUnless, making}
 use Rattle.respond.specs.Response as Response
 use Rattle.respond.specs.Response.{madeBy, answerReply, unlessRefused}
 use Rattle.respond.specs.Stages.{Held}

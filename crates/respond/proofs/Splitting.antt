@@ -16,7 +16,7 @@ use Rattle.script.specs.File.{numbered, headTypes, headInputs, headNodes, fileL
 use Rattle.script.specs.Refusals.{headMarked, countsRight, isNone}
 use Rattle.script.specs.Tables.{Tables, over}
 use Rattle.script.proofs.Numbered.{length-numbered}
-use Rattle.specializer.specs.Making.{Stores, storesSuffice}
+use Rattle.machine.specs.Room.{Stores, storesSuffice}
 use Rattle.specializer.specs.declared.Reply.{Reply}
 use Rattle.specializer.specs.Entry.{Makes}
 use Rattle.respond.specs.Response.{programSettings, headRight, scriptLengthBy, scriptLength, wholeSettings, settingMarked, settingAt}

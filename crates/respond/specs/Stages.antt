@@ -21,7 +21,8 @@ use Rattle.script.specs.Tables.{Tables, tablesScript, tablesRefusal, longEnough
 use Rattle.printer.specs.Places.{Placed}
 use Rattle.printer.specs.Answers.{tablesText}
 use Rattle.specializer.specs.declared.Reply.{Reply}
-use Rattle.specializer.specs.Making.{Stores, storesSuffice, making}
+use Rattle.machine.specs.Room.{Stores, storesSuffice}
+use Rattle.specializer.specs.Making.{making}
 use Rattle.specializer.specs.Entry.{given}
 use Rattle.respond.specs.Response.{wholeSettings, settingsReply, unmadeText, countsText, replyText, response}
 use Rattle.respond.specs.Given.{givenSettings}

@@ -17,7 +17,7 @@ use Rattle.script.specs.Replies.{verdictReply, readingReply, writingReply, Tell
 use Rattle.annotation.specs.Checks.{checkRefusal}
 use Rattle.residual.specs.AfterRun.{Made}
 use Rattle.specializer.specs.declared.Reply.{Reply}
-use Rattle.specializer.specs.Making.{Stores}
+use Rattle.machine.specs.Room.{Stores}
 use Rattle.specializer.specs.Entry as Entry
 use Rattle.specializer.specs.Entry.{replied}
 use Rattle.printer.specs.Answers.{ListsTables}

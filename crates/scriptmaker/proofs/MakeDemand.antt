@@ -10,7 +10,7 @@ use Rattle.script.specs.declared.Counts as Script
 use Rattle.script.specs.Tables.{Tables}
 use Rattle.annotation.specs.Checks.{checkRefusal}
 use Rattle.residual.specs.AfterRun.{Reply, made, unmade, numberIn, stepsIn, nodesIn}
-use Rattle.specializer.specs.Making.{Stores}
+use Rattle.machine.specs.Room.{Stores}
 use Rattle.specializer.specs.EntryDemand.{KeepsDemandThree}
 use Rattle.specializer.proofs.EntryDemand.{making-keeps}
 use Rattle.scriptmaker.specs.declared.Counts.{Counts}

@@ -16,7 +16,8 @@ use Rattle.script.specs.Replies.{Reply, replying, headCounts}
 use Rattle.annotation.specs.Checks.{checkRefusal}
 use Rattle.residual.specs.AfterRun as AfterRun
 use Rattle.residual.specs.AfterRun.{numberIn, placeIn, stepsIn, nodesIn}
-use Rattle.specializer.specs.Making.{Stores, making, refusalBefore, storesAfter}
+use Rattle.machine.specs.Room.{Stores}
+use Rattle.specializer.specs.Making.{making, refusalBefore, storesAfter}
 use Rattle.specializer.specs.Entry.{GivenFit}
 use Rattle.printer.specs.Answers.{tablesText, listRefusal}
 use Rattle.scriptmaker.specs.declared.Counts.{Counts}

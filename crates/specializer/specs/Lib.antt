@@ -1,4 +1,3 @@
-pub mod Start
 pub mod Making
 pub mod Entry
 pub mod EntryDemand

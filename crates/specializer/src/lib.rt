@@ -1,10 +1,7 @@
 // The specializer, the paper's maker: it evaluates the static steps of a script and leaves residual code.
 mod before;
-mod clear;
-pub mod limits;
 pub mod make;
 mod run;
-mod start;
 
 use script::Refusal;
 

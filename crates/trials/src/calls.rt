@@ -4,6 +4,7 @@
 use crate::print;
 use crate::task::Task;
 use crate::task::try_file;
+use machine::limits::MAX_FUEL;
 use reading::bytes;
 use respond::limits::MAX_BYTES;
 use script::Counts;
@@ -11,7 +12,6 @@ use script::column;
 use script::limits::MAX_INPUTS;
 use script::place::file_size;
 use specializer::Reply;
-use specializer::limits::MAX_FUEL;
 ghost use Prim.Native.Nat.{_≤_};
 
 // Places of the stores that suffice for every call.

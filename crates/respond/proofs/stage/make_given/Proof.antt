@@ -2,7 +2,7 @@
 use mathlib.Core.Path.{refl}
 use native.Mathlib.Omega.{arith}
 use Rattle.lambdamix.specs.Limits.{maxInputs, programFuel}
-use Rattle.specializer.specs.Making.{suffices, storesSuffice}
+use Rattle.machine.specs.Room.{suffices, storesSuffice}
 use Rattle.respond.specs.Response.{programSettings}
 use Rattle.respond.proofs.Splitting.{given-most, makes-given}
 use borrow.Author.Needs.{needs}
