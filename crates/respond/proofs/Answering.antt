@@ -35,9 +35,12 @@ use Rattle.specializer.specs.Making.{madeUnless}
 use Rattle.specializer.specs.Entry.{replied}
 use Rattle.specializer.proofs.Exactly.{made-length, made-code}
 use Rattle.respond.specs.Response as Response
-use Rattle.respond.specs.Response.{wholeSettings, madeBy, answerReply, unlessRefused, scriptReply, settingsReply, unmadeText, countsText, replyText}
-use Rattle.respond.specs.Given.{givenSettings}
-use Rattle.respond.specs.Stages.{Prints, PrintsMade, Held, MakesGiven, AnswersScript}
+use Rattle.respond.specs.Response.{madeBy, answerReply, unlessRefused, scriptReply, settingsReply, replyText}
+use Rattle.streams.specs.Lines.{unmadeText, countsText}
+use Rattle.streams.specs.Input.{wholeSettings}
+use Rattle.streams.specs.Given.{givenSettings}
+use Rattle.respond.specs.Stages.{PrintsMade, Held, MakesGiven, AnswersScript}
+use Rattle.streams.specs.Printed.{Prints}
 use Rattle.respond.proofs.Files.{few-inputs}
 use Rattle.respond.proofs.GivenSettings.{given-reply, settings-fit}
 use Rattle.respond.proofs.Making.{making-is, unmade-told}

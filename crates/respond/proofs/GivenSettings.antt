@@ -21,8 +21,9 @@ use Rattle.file.specs.Encodable.{AllBytes}
 use Rattle.file.proofs.ByteLaws.{value-small}
 use Rattle.script.proofs.Rows.{everywhere}
 use Rattle.script.proofs.Numbered.{length-numbered, row-at}
-use Rattle.respond.specs.Response.{programSettings, wholeSettings, settingAt, settings, Reply, unmade, answerReply, unlessRefused, scriptReply, settingsReply}
-use Rattle.respond.specs.Given.{givenBy, givenCount, givenSettings}
+use Rattle.respond.specs.Response.{Reply, unmade, answerReply, unlessRefused, scriptReply, settingsReply}
+use Rattle.streams.specs.Input.{programSettings, wholeSettings, settingAt, settings}
+use Rattle.streams.specs.Given.{givenBy, givenCount, givenSettings}
 
 abbrev twelve : Option Refusal
 twelve = some (record { number = 12; place = 0 })

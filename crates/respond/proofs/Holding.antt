@@ -27,9 +27,10 @@ use Rattle.file.proofs.FileLaws.{read-fits, script-counts, script-passes}
 use Rattle.printer.specs.Answers.{tablesText}
 use Rattle.printer.proofs.Writing.{join}
 use Rattle.printer.proofs.ListingBound.{listing-bytes}
-use Rattle.respond.specs.Stages.{linesBytes, listingBytes, CountsPlaced, ListsAt, ListsReading, ListsFile, PrintsMade, Held}
+use Rattle.respond.specs.Stages.{listingBytes, ListsAt, ListsReading, ListsFile, PrintsMade, Held}
+use Rattle.streams.specs.Printed.{linesBytes, CountsPlaced}
 use Rattle.respond.proofs.Files.{file-counts, long-for, held-passes}
-use Rattle.respond.proofs.Splitting.{front-part}
+use Rattle.streams.proofs.Splitting.{front-part}
 
 -- ---- the reader's answer, where the tables are long enough for every file
 

@@ -9,7 +9,9 @@ use Rattle.lambdamix.proofs.Computing.{computing}
 use Rattle.script.specs.Bytes.{bits32, bytes32}
 use Rattle.script.specs.File.{fileBytes}
 use Rattle.file.proofs.FileTrials.{reading}
-use Rattle.respond.specs.Response.{headRight, scriptLengthBy, scriptLength, scriptPart, settingsPart, settingMarked, wholeSettings, settingAt, settings, madeBy, answerReply, unlessRefused, scriptReply, settingsReply, inputReply, replyTo, pairText, unmadeText, countsText, replyText, response}
+use Rattle.respond.specs.Response.{madeBy, answerReply, unlessRefused, scriptReply, settingsReply, inputReply, replyTo, replyText, response}
+use Rattle.streams.specs.Lines.{pairText, unmadeText, countsText}
+use Rattle.streams.specs.Input.{headRight, scriptLengthBy, scriptLength, scriptPart, settingsPart, settingMarked, wholeSettings, settingAt, settings}
 
 pub input-a-printed :
     response (fileBytes inputA ++ (ascii "SV" ++ bytes32 (bits32 (pos 40)))) ≡ ascii "accepted\nsteps 6\nnodes 4\n(< i1 4000)\n"

@@ -1,5 +1,5 @@
-pub mod Splitting
-pub mod Lines
+pub mod Settings
+pub mod Listed
 pub mod GivenSettings
 pub mod Files
 pub mod Holding

@@ -18,7 +18,9 @@ use Rattle.script.specs.Bytes.{byteAt, word16}
 use Rattle.script.specs.File.{fileLength, nodeOffset, headTypes, headInputs, headNodes, scriptIn}
 use Rattle.script.specs.Refusals.{marked, headMarked, countsRight, fileRefusal, headRefusal}
 use Rattle.script.proofs.Sound.{in-limits}
-use Rattle.respond.specs.Response.{programSettings, headRight, scriptLengthBy, scriptLength, scriptPart, settingsPart, unmade, unlessRefused, inputReply, replyTo, unmadeText, replyText, response}
+use Rattle.respond.specs.Response.{unmade, unlessRefused, inputReply, replyTo, replyText, response}
+use Rattle.streams.specs.Lines.{unmadeText}
+use Rattle.streams.specs.Input.{programSettings, headRight, scriptLengthBy, scriptLength, scriptPart, settingsPart}
 use Rattle.respond.proofs.Files.{few-inputs}
 use Rattle.respond.proofs.GivenSettings.{many-settings}
 

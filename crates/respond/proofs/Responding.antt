@@ -25,11 +25,14 @@ use Rattle.script.specs.Replies.{Reads}
 use Rattle.printer.specs.Places.{most}
 use Rattle.script.proofs.Rows.{everywhere}
 use Rattle.respond.specs.declared.Response.the-variants.{Printed, Refused}
-use Rattle.respond.specs.Response.{scriptLength, scriptPart, settingsPart, inputReply, replyTo, unmadeText, replyText, response}
+use Rattle.respond.specs.Response.{inputReply, replyTo, replyText, response}
+use Rattle.streams.specs.Lines.{unmadeText}
+use Rattle.streams.specs.Input.{scriptLength, scriptPart, settingsPart}
 use Rattle.script.specs.Replies.{replying}
 use Rattle.respond.specs.Answers.{responseReply, outputRefusal, Responds}
-use Rattle.respond.specs.Stages.{Prints, AnswersScript, AnswersReading, Answers}
-use Rattle.respond.proofs.Splitting.{front-part, back-part}
+use Rattle.respond.specs.Stages.{AnswersScript, AnswersReading, Answers}
+use Rattle.streams.specs.Printed.{Prints}
+use Rattle.streams.proofs.Splitting.{front-part, back-part}
 use Rattle.respond.proofs.Holding.{one-count, refused-not-read, passed-read, refused-read, held}
 
 -- ---- parts of bytes are bytes

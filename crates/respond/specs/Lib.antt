@@ -1,4 +1,3 @@
 pub mod Response
-pub mod Given
 pub mod Answers
 pub mod Stages

@@ -1,4 +1,4 @@
--- What the stages of `respond` promise: lines and listings printed, a script answered. Assumes nothing.
+-- What the stages of `respond` promise: listings printed, a script answered. Assumes nothing.
 use Prim.Native.Nat.{ℕ, _+_, _*_, _≤_}
 use mathlib.Core.Path.{_≡_}
 use mathlib.Core.Bool.{true, false}
@@ -24,25 +24,15 @@ use Rattle.specializer.specs.declared.Reply.{Reply}
 use Rattle.machine.specs.Room.{Stores, storesSuffice}
 use Rattle.specializer.specs.Making.{making}
 use Rattle.specializer.specs.Entry.{given}
-use Rattle.respond.specs.Response.{wholeSettings, settingsReply, unmadeText, countsText, replyText, response}
-use Rattle.respond.specs.Given.{givenSettings}
+use Rattle.respond.specs.Response.{settingsReply, replyText, response}
+use Rattle.streams.specs.Lines.{unmadeText, countsText}
+use Rattle.streams.specs.Input.{wholeSettings}
+use Rattle.streams.specs.Given.{givenSettings}
+use Rattle.streams.specs.Printed.{Prints}
 
--- a text that fits is printed
-pub record Prints (text before after : List ℕ) (r : ℕ) : Type 0 where
-  pub short : length text ≤ maxBytes
-  pub placed : Placed text 0 before after r
-
--- the most bytes of the lines before a listing, and of the listing of a file that passes 1 to 8
-unfoldable pub linesBytes : ℕ
-linesBytes = 64
-
+-- the most bytes of the listing of a file that passes 1 to 8
 unfoldable pub listingBytes : ℕ
 listingBytes = 13 * maxNodes + 1
-
--- the three lines before a listing are placed
-pub record CountsPlaced (k n : ℕ) (before after : List ℕ) (r : ℕ) : Type 0 where
-  pub short : length (countsText k n) ≤ linesBytes
-  pub placed : Placed (countsText k n) 0 before after r
 
 -- counts and tables that pass 1 to 8 are listed from a place on, where there is room
 pub record ListsAt (n : Counts) (x : Tables) (at : ℕ) (before after : List ℕ) (r : ℕ) : Type 0 where

@@ -1,13 +1,13 @@
 // The program's answer to an input.
 use crate::Response;
 use crate::limits::MAX_BYTES;
-use crate::split::script_end;
 use crate::stage::answer_script;
 use reading::reader::read;
 use script::Refusal;
 use script::limits::MAX_INPUTS;
 use script::limits::MAX_NODES;
 use script::limits::MAX_TYPES;
+use streams::split::script_end;
 ghost use Rattle.respond.specs.Answers.{Responds};
 ghost use Rattle.respond.specs.Stages.{Answers};
 

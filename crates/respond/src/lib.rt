@@ -1,9 +1,6 @@
 // What the program answers to its input.
 pub mod answer;
 pub mod limits;
-mod print;
-mod settings;
-mod split;
 mod stage;
 
 use script::Refusal;

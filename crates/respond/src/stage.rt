@@ -3,24 +3,25 @@ use crate::limits::CODES;
 use crate::limits::FUEL;
 use crate::limits::HEAP;
 use crate::limits::MAX_BYTES;
-use crate::limits::SETTINGS;
-use crate::print::list_at;
-use crate::print::print_counts;
-use crate::print::print_unmade;
-use crate::settings::decode;
-use crate::settings::given_count;
+use printer::list::list;
+use printer::parts::further;
 use printer::parts::least;
 use reading::reader::read;
 use script::Counts;
 use script::Reading;
+use script::Writing;
 use script::limits::MAX_INPUTS;
 use script::limits::MAX_NODES;
 use script::limits::MAX_TYPES;
 use script::place::file_size;
 use specializer::Reply;
 use specializer::make::make;
+use streams::limits::SETTINGS;
+use streams::print::print_counts;
+use streams::print::print_unmade;
+use streams::settings::settings_given;
 ghost use Rattle.script.specs.Tables.{tablesOf};
-ghost use Rattle.respond.specs.Stages.{MakesGiven, ListsFile, PrintsMade, AnswersReading};
+ghost use Rattle.respond.specs.Stages.{MakesGiven, ListsReading, ListsFile, PrintsMade, AnswersReading};
 
 // The maker on a script that was read, with the settings that follow it and stores that start as zeros.
 fn make_given(
@@ -39,9 +40,8 @@ fn make_given(
     ensures { λ r. ⌜ MakesGiven n (tablesOf (now (parameters .entry)) (now (results .entry)) (now (inputs .entry)) (now (kinds .entry)) (now (a .entry)) (now (b .entry)) (now (c .entry)) (now (values .entry))) (now (rest .entry)) (now (file .entry)) (now (file .exit)) r ⌝ }
 {
     let first = 0;
-    let count = given_count(rest);
     let mut settings = [0i32; SETTINGS];
-    decode(rest, count, &mut settings);
+    let count = settings_given(rest, &mut settings);
     let mut heap = [0u64; HEAP];
     let mut codes = [0u64; CODES];
     make(
@@ -60,6 +60,46 @@ fn make_given(
         &mut codes,
         file,
     )
+}
+
+// The listing of what was read, from a place of the output on.
+fn list_at(
+    told: Reading,
+    parameters: &[u16],
+    results: &[u16],
+    inputs: &[u16],
+    kinds: &[u8],
+    a: &[u16],
+    b: &[u16],
+    c: &[u16],
+    values: &[i32],
+    out: &mut [u8],
+    at: usize,
+) -> usize
+    ensures { λ r. ⌜ ListsReading told (tablesOf (now (parameters .entry)) (now (results .entry)) (now (inputs .entry)) (now (kinds .entry)) (now (a .entry)) (now (b .entry)) (now (c .entry)) (now (values .entry))) at (now (out .entry)) (now (out .exit)) r ⌝ }
+{
+    match told {
+        Reading::Refused(_) => at,
+        Reading::Read(n) => {
+            let from = least(at, out.len());
+            let answer = list(
+                n,
+                parameters,
+                results,
+                inputs,
+                kinds,
+                a,
+                b,
+                c,
+                values,
+                &mut out[from..],
+            );
+            match answer {
+                Writing::Written(k) => further(at, k),
+                Writing::Refused(_) => at,
+            }
+        }
+    }
 }
 
 // The listing of a script file from a place of the output on, by way of tables that start as zeros.

@@ -5,7 +5,7 @@ use Rattle.lambdamix.specs.Limits.{maxTypes, maxInputs, maxNodes}
 use Rattle.script.specs.Columns.{enough}
 use Rattle.script.specs.Bytes.{byteAt}
 use Rattle.script.specs.Tables.{longEnough}
-use Rattle.respond.proofs.Splitting.{from-start, end-within}
+use Rattle.streams.proofs.Splitting.{from-start, end-within}
 use Rattle.respond.proofs.Responding.{input-answered}
 use Rattle.respond.proofs.answer.answer.Statement.{statement}
 use Rattle.respond.proofs.answer.answer.Tie as tie

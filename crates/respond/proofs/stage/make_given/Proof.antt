@@ -3,31 +3,29 @@ use mathlib.Core.Path.{refl}
 use native.Mathlib.Omega.{arith}
 use Rattle.lambdamix.specs.Limits.{maxInputs, programFuel}
 use Rattle.machine.specs.Room.{suffices, storesSuffice}
-use Rattle.respond.specs.Response.{programSettings}
-use Rattle.respond.proofs.Splitting.{given-most, makes-given}
+use Rattle.streams.specs.Input.{programSettings}
+use Rattle.streams.proofs.Splitting.{given-most}
+use Rattle.respond.proofs.Settings.{makes-given}
 use borrow.Author.Needs.{needs}
 use Rattle.respond.proofs.stage.make_given.Statement.{statement}
 use Rattle.respond.proofs.stage.make_given.Tie as tie
 
-decode-requires : tie.Need-decode-requires
-unfolding programSettings maxInputs
-decode-requires c κs = (omega (arith, c .before .given-count .ensures, given-most (c .before .before .before .before .before .before .before .before .before .before .before .args .rest .now)), omega (arith, c .before .given-count .ensures, given-most (c .before .before .before .before .before .before .before .before .before .before .before .args .rest .now)))
-
 part-make-end : tie.Need-part-make-end
 unfolding programSettings maxInputs
-part-make-end c = omega (arith, c .before .before .before .before .given-count .ensures, given-most (c .before .before .before .before .before .before .before .before .before .before .before .before .before .before .args .rest .now), c .before .before .decode .kept)
+part-make-end c =
+    omega (arith, c .before .before .settings-given .ensures .0, given-most (c .before .before .before .before .before .before .before .before .before .before .before .before .before .args .rest .now), c .before .before .settings-given .kept)
 
 returns : tie.Need-returns
-unfolding storesSuffice suffices programFuel maxInputs
-returns c = makes-given _ _ (c .before .before .before .before .before .before .before .before .before .before .before .before .before .given-count .ensures) (c .before .before .before .before .before .before .before .before .before .before .before .decode .ensures) refl (c .before .before .before .before .make .ensures)
+unfolding storesSuffice suffices programFuel maxInputs programSettings
+returns c =
+    makes-given _ _ (c .before .before .before .before .before .before .before .before .before .before .before .settings-given .ensures .0) (omega arith) (c .before .before .before .before .before .before .before .before .before .before .before .settings-given .ensures .1) refl (c .before .before .before .before .make .ensures)
 
 pub make-given-spec : {M : Type 1} → statement M
 make-given-spec =
     tie.close
     (tie.spec
-    (λ c κs. search needs)
     (λ c. search needs)
-    decode-requires
+    (λ c κs. tt)
     (λ c. search needs)
     (λ c. search needs)
     (λ c. search needs)
@@ -35,6 +33,6 @@ make-given-spec =
     (λ c. search needs)
     (λ c. search needs)
     (λ c. search needs)
-    (λ c κs. search needs)
+    (λ c κs. tt)
     (λ c. search needs)
     returns)

@@ -1,0 +1,23 @@
+-- `streams::print::print_pair` meets its contract: five parts, one behind the other. Assumes nothing.
+use Rattle.lambdamix.specs.Text.{ascii}
+use Rattle.streams.proofs.Lines.{pair-placed}
+use borrow.Author.Needs.{needs}
+use Rattle.streams.proofs.print.print_pair.Statement.{statement}
+use Rattle.streams.proofs.print.print_pair.Tie as tie
+
+returns : tie.Need-returns
+unfolding ascii
+returns c =
+    pair-placed _ _ (c .before .before .before .before .before .before .before .before .before .before .before .before .before .before .before .before .before .before .text-at .ensures) (c .before .before .before .before .before .before .before .before .before .before .before .before .before .before .part-at .ensures) (c .before .before .before .before .before .before .before .before .before .before .text-at2 .ensures) (c .before .before .before .before .before .before .part-at2 .ensures) (c .before .before .part-at3 .ensures)
+
+pub print-pair-spec : {M : Type 1} → statement M
+print-pair-spec =
+    tie.close
+    (tie.spec
+    (λ c κs. tt)
+    (λ c κs. tt)
+    (λ c κs. tt)
+    (λ c κs. tt)
+    (λ c κs. tt)
+    (λ c. search needs)
+    returns)

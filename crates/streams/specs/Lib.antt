@@ -1,0 +1,4 @@
+pub mod Input
+pub mod Given
+pub mod Lines
+pub mod Printed
