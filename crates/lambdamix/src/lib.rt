@@ -1,6 +1,7 @@
 // The Rattle part of the calculus: the names that its definitions share with the code above it, and the
-// exact arithmetic of the six operators.
+// exact arithmetic of the six operators, and the numbers of stops.
 pub mod arithmetic;
+pub mod stops;
 
 // What a field of a node holds: nothing, a variable's name, the name that a function binds, a child's number, the
 // number of a parameter's type, or an operator. The first variant is also what a field past the table holds.
@@ -21,6 +22,21 @@ pub enum Operator {
     Divide,
     Equal,
     Less,
+}
+
+// Why a run stops: its fuel is spent, it is too deep, a result is out of range, a divisor is 0, or a value is of another sort than its rule wants.
+pub enum Reason {
+    FuelSpent,
+    TooDeep,
+    OutOfRange,
+    DivisorZero,
+    Clash,
+}
+
+// What a run of the maker is: making, or the bare run, which leaves out refusals 9 to 11.
+pub enum Mode {
+    Making,
+    BareRun,
 }
 
 // What an operation gives: a number of 32 bits, or the reason for a stop.

@@ -11,6 +11,7 @@ use lib.ListN.{length, take}
 use lib.Seq.{take-at}
 use lib.Dec.{leb, ltb}
 use borrow.Author.Tests.{le-leb, leb-true}
+use Rattle.lambdamix.specs.declared.Mode.the-variants.{Making}
 use Rattle.lambdamix.specs.Limits.{maxInputs, maxNodes, maxHeight, maxFuel, programFuel, maxBytes}
 use Rattle.lambdamix.specs.Script.{Script}
 use Rattle.lambdamix.specs.Checker.{Refusal, annotationRefusal}
@@ -66,7 +67,7 @@ done-reply s zs e f g = rw (e, f, g)
 
 reply-is :
     (bs rest : List ℕ) → fileRefusal bs ≡ none →
-    unlessRefused (laterRefusal false (scriptIn bs) (givenSettings rest) programFuel true)
+    unlessRefused (laterRefusal Making (scriptIn bs) (givenSettings rest) programFuel true)
     (answerReply (specialized (scriptIn bs) (givenSettings rest) programFuel))
     ≡ settingsReply (wholeSettings rest) (scriptIn bs) rest
 unfolding scriptReply
@@ -99,9 +100,9 @@ module _ {n : Counts} {x : Tables} (rest : List ℕ) {file made : List ℕ} {rep
     answers = λ bs h all long.
         let s : Script = scriptIn bs in
         let zs : List ℤ = givenSettings rest in
-        let gives : record { reply = AfterRun.made k l; output = made } ≡ madeUnless (laterRefusal false s zs programFuel true) s zs programFuel file =
+        let gives : record { reply = AfterRun.made k l; output = made } ≡ madeUnless (laterRefusal Making s zs programFuel true) s zs programFuel file =
         (rw q at (m .gives)) ∙ making-is h zs (m .stores) (m .enough) file in
-        let t = made-code s zs programFuel file (laterRefusal false s zs programFuel true) (sym (ap (λ (g : Made). g .reply) gives)) in
+        let t = made-code s zs programFuel file (laterRefusal Making s zs programFuel true) (sym (ap (λ (g : Made). g .reply) gives)) in
         let c : Code = t .code in
         let given : record { reply = AfterRun.made k l; output = made } ≡ codeMade s c k file = gives ∙ t .whole in
         let nodes : l ≡ size c = ap (λ (g : Made). nodesIn (g .reply)) given in

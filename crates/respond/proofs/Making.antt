@@ -8,6 +8,7 @@ use native.Mathlib.Omega.{arith}
 use lib.IntN.{ℤ}
 use lib.ListN.{length}
 use lib.Dec.{leb}
+use Rattle.lambdamix.specs.declared.Mode.the-variants.{Making}
 use Rattle.lambdamix.specs.Limits.{programFuel}
 use Rattle.lambdamix.specs.Script.{Script}
 use Rattle.lambdamix.specs.Checker.{Refusal}
@@ -29,14 +30,14 @@ use Rattle.respond.proofs.Files.{held-passes}
 
 module _ {bs : List ℕ} {n : Counts} {x : Tables} (h : Held bs n x) (zs : List ℤ) (m : Stores) (enough : storesSuffice programFuel m ≡ true) where
   before-is :
-      refusalBefore false (n .types) (n .inputs) (n .nodes) x zs programFuel m ≡ laterRefusal false (scriptIn bs) zs programFuel true
+      refusalBefore Making (n .types) (n .inputs) (n .nodes) x zs programFuel m ≡ laterRefusal Making (scriptIn bs) zs programFuel true
   unfolding refusalBefore orElse
   before-is = rw (held-passes h, h .script, enough)
 
   pub making-is :
       (out : List ℕ) →
-      making false (n .types) (n .inputs) (n .nodes) x zs programFuel m out
-      ≡ madeUnless (laterRefusal false (scriptIn bs) zs programFuel true) (scriptIn bs) zs programFuel out
+      making Making (n .types) (n .inputs) (n .nodes) x zs programFuel m out
+      ≡ madeUnless (laterRefusal Making (scriptIn bs) zs programFuel true) (scriptIn bs) zs programFuel out
   unfolding making
   making-is out = rw (before-is, h .script)
 

@@ -5,6 +5,7 @@ use mathlib.Core.Bool.{true, false}
 use mathlib.Core.List.{List}
 use lib.IntN.{ℤ}
 use lib.ListN.{length, take, drop}
+use Rattle.lambdamix.specs.declared.Mode.the-variants.{Making}
 use Rattle.lambdamix.specs.Limits.{programFuel}
 use Rattle.script.specs.declared.Counts.{Counts}
 use Rattle.script.specs.Tables.{Tables, over}
@@ -21,6 +22,6 @@ pub makes-given :
     (zs : List ℤ) (rest : List ℕ) →
     count ≡ givenCount rest → programSettings ≤ length zs → (programSettings ≤ length zs → ws ≡ over (givenSettings rest) zs) →
     storesSuffice programFuel before ≡ true →
-    Makes false n x (take (count - 0) (drop 0 ws)) programFuel before after file made r → MakesGiven n x rest file made r
+    Makes Making n x (take (count - 0) (drop 0 ws)) programFuel before after file made r → MakesGiven n x rest file made r
 makes-given {before = before} zs rest e l d enough m =
     record { stores = before; enough = enough; gives = (rw (first-given zs rest e l d) at m) .gives }

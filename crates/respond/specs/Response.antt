@@ -6,6 +6,7 @@ use mathlib.Core.List.{List, _++_}
 use mathlib.Core.Option.{Option, none, some}
 use lib.IntN.{ℤ}
 use lib.Dec.{ltb}
+use Rattle.lambdamix.specs.declared.Mode.the-variants.{Making}
 use Rattle.lambdamix.specs.Limits.{programFuel}
 use Rattle.lambdamix.specs.Script.{Script}
 use Rattle.lambdamix.specs.Checker.{Refusal, annotationRefusal}
@@ -37,7 +38,7 @@ unlessRefused (some f) r = unmade (f .number) (f .place) 0
 
 -- a script past 1 to 8 with these settings: the program's stores suffice, and its output has room for every file
 unfoldable pub scriptReply : Script → List ℤ → Reply
-scriptReply s zs = unlessRefused (laterRefusal false s zs programFuel true) (answerReply (specialized s zs programFuel))
+scriptReply s zs = unlessRefused (laterRefusal Making s zs programFuel true) (answerReply (specialized s zs programFuel))
 
 -- the making with what follows the script; what isn't whole records is 12, in 12's place
 unfoldable pub settingsReply : Bool → Script → List ℕ → Reply

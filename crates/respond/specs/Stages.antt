@@ -6,6 +6,7 @@ use mathlib.Core.List.{List, _++_}
 use mathlib.Core.Option.{none}
 use lib.ListN.{length, take}
 use lib.Dec.{ltb}
+use Rattle.lambdamix.specs.declared.Mode.the-variants.{Making}
 use Rattle.lambdamix.specs.Limits.{maxTypes, maxInputs, maxNodes, programFuel, maxBytes}
 use Rattle.lambdamix.specs.Script.{Script}
 use Rattle.lambdamix.specs.Listing.{listing}
@@ -71,7 +72,7 @@ pub record Held (bs : List ℕ) (n : Counts) (x : Tables) : Type 0 where
 pub record MakesGiven (n : Counts) (x : Tables) (rest file made : List ℕ) (r : Reply) : Type 0 where
   pub stores : Stores
   pub enough : storesSuffice programFuel stores ≡ true
-  pub gives : given r made ≡ making false (n .types) (n .inputs) (n .nodes) x (givenSettings rest) programFuel stores file
+  pub gives : given r made ≡ making Making (n .types) (n .inputs) (n .nodes) x (givenSettings rest) programFuel stores file
 
 -- a script that is held is answered, with what follows it
 pub record AnswersScript (n : Counts) (x : Tables) (rest out printed : List ℕ) (r : ℕ) : Type 0 where

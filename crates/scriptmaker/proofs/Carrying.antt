@@ -6,6 +6,7 @@ use mathlib.Core.Bool.{Bool}
 use mathlib.Core.List.{List}
 use mathlib.Core.Option.{Option}
 use lib.IntN.{ℤ}
+use Rattle.lambdamix.specs.declared.Mode.{Mode}
 use Rattle.lambdamix.specs.Checker.{Refusal}
 use Rattle.script.specs.declared.Counts as Script
 use Rattle.script.specs.declared.Reading.{Reading}
@@ -62,11 +63,11 @@ module _ {n : Counts} {m : Script.Counts} (same : m ≡ countsOf n) where
       record { reply = e ∙ ap checkReply (k .reply) }
 
 pub makes :
-    (bare : Bool) (n : Counts) (m : Script.Counts) (x : Tables) (zs : List ℤ) (fuel : ℕ) (before after : Stores) (out left : List ℕ)
-    (r : Reply) (q : MakeReply) → m ≡ countsOf n → Entry.Makes bare m x zs fuel before after out left r →
-    q ≡ makeReply (replied r) → Makes bare n x zs fuel before after out left q
-makes bare n m x zs fuel before after out left r q same h e =
-    let k : Entry.Makes bare (countsOf n) x zs fuel before after out left r = subst (λ (o : Script.Counts). Entry.Makes bare o x zs fuel before after out left r) same h in
+    (mode : Mode) (n : Counts) (m : Script.Counts) (x : Tables) (zs : List ℤ) (fuel : ℕ) (before after : Stores) (out left : List ℕ)
+    (r : Reply) (q : MakeReply) → m ≡ countsOf n → Entry.Makes mode m x zs fuel before after out left r →
+    q ≡ makeReply (replied r) → Makes mode n x zs fuel before after out left q
+makes mode n m x zs fuel before after out left r q same h e =
+    let k : Entry.Makes mode (countsOf n) x zs fuel before after out left r = subst (λ (o : Script.Counts). Entry.Makes mode o x zs fuel before after out left r) same h in
     record {
       reply = e ∙ ap (λ (a : Made). makeReply (a .reply)) (k .gives);
       output = ap (λ (a : Made). a .output) (k .gives);

@@ -6,6 +6,7 @@ use mathlib.Core.Bool.{false}
 use mathlib.Core.List.{List}
 use mathlib.Core.Option.{none}
 use lib.IntN.{ℤ}
+use Rattle.lambdamix.specs.declared.Mode.the-variants.{Making}
 use Rattle.script.specs.declared.Counts as Script
 use Rattle.script.specs.Tables.{Tables}
 use Rattle.annotation.specs.Checks.{checkRefusal}
@@ -28,7 +29,7 @@ in-struct q h = h
 -- Theorem: what `scriptmaker_make` promises of a call on an accepted script keeps demand 3.
 pub make-keeps-demand-three :
     (n : Counts) (x : Tables) (zs : List ℤ) (fuel : ℕ) (before after : Stores) (out left : List ℕ) (r : MakeReply) →
-    Makes false n x zs fuel before after out left r → checkRefusal (n .types) (n .inputs) (n .nodes) x ≡ none →
+    Makes Making n x zs fuel before after out left r → checkRefusal (n .types) (n .inputs) (n .nodes) x ≡ none →
     KeepsDemandThree (countsOf n) x zs fuel before (r .number) (r .steps) (r .nodes) left
 make-keeps-demand-three n x zs fuel before after out left r h c =
     rw (h .reply, h .output) (in-struct _ (making-keeps (countsOf n) x zs fuel before c (h .fit) out))

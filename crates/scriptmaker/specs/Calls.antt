@@ -7,6 +7,7 @@ use mathlib.Core.List.{List}
 use mathlib.Core.Option.{Option, none, some}
 use lib.IntN.{ℤ}
 use lib.ListN.{length}
+use Rattle.lambdamix.specs.declared.Mode.{Mode}
 use Rattle.lambdamix.specs.Checker.{Refusal}
 use Rattle.script.specs.declared.Counts as Script
 use Rattle.script.specs.File.{fileBytes}
@@ -80,7 +81,7 @@ pub record Checks (n : Counts) (x : Tables) (r : CheckReply) : Type 0 where
 
 -- making, or the bare run: the reply, the output after it, the stores after it, and that a run was given numbers of 32 bits
 pub record Makes
-    (bare : Bool)
+    (mode : Mode)
     (n : Counts)
     (x : Tables)
     (zs : List ℤ)
@@ -89,7 +90,7 @@ pub record Makes
     (out left : List ℕ)
     (r : MakeReply)
     : Type 0 where
-  pub reply : r ≡ makeReply (making bare (n .types) (n .inputs) (n .nodes) x zs fuel before out .reply)
-  pub output : left ≡ making bare (n .types) (n .inputs) (n .nodes) x zs fuel before out .output
-  pub stored : after ≡ storesAfter (refusalBefore bare (n .types) (n .inputs) (n .nodes) x zs fuel before) before
-  pub fit : refusalBefore bare (n .types) (n .inputs) (n .nodes) x zs fuel before ≡ none → GivenFit (countsOf n) x zs
+  pub reply : r ≡ makeReply (making mode (n .types) (n .inputs) (n .nodes) x zs fuel before out .reply)
+  pub output : left ≡ making mode (n .types) (n .inputs) (n .nodes) x zs fuel before out .output
+  pub stored : after ≡ storesAfter (refusalBefore mode (n .types) (n .inputs) (n .nodes) x zs fuel before) before
+  pub fit : refusalBefore mode (n .types) (n .inputs) (n .nodes) x zs fuel before ≡ none → GivenFit (countsOf n) x zs

@@ -48,7 +48,7 @@ pub extern "C" fn scriptmaker_make(
     codes: &mut [u64],
     out: &mut [u8],
 ) -> MakeReply
-    ensures { λ r. ⌜ Makes false n (tablesOf (now (parameters .entry)) (now (results .entry)) (now (inputs .entry)) (now (kinds .entry)) (now (a .entry)) (now (b .entry)) (now (c .entry)) (now (values .entry)))
+    ensures { λ r. ⌜ Makes Mode.Making n (tablesOf (now (parameters .entry)) (now (results .entry)) (now (inputs .entry)) (now (kinds .entry)) (now (a .entry)) (now (b .entry)) (now (c .entry)) (now (values .entry)))
         (now (settings .entry)) fuel (stores (now (heap .entry)) (now (codes .entry))) (stores (now (heap .exit)) (now (codes .exit))) (now (out .entry)) (now (out .exit)) r ⌝ }
 {
     reply(make(
@@ -87,7 +87,7 @@ pub extern "C" fn scriptmaker_bare_run(
     codes: &mut [u64],
     out: &mut [u8],
 ) -> MakeReply
-    ensures { λ r. ⌜ Makes true n (tablesOf (now (parameters .entry)) (now (results .entry)) (now (inputs .entry)) (now (kinds .entry)) (now (a .entry)) (now (b .entry)) (now (c .entry)) (now (values .entry)))
+    ensures { λ r. ⌜ Makes Mode.BareRun n (tablesOf (now (parameters .entry)) (now (results .entry)) (now (inputs .entry)) (now (kinds .entry)) (now (a .entry)) (now (b .entry)) (now (c .entry)) (now (values .entry)))
         (now (settings .entry)) fuel (stores (now (heap .entry)) (now (codes .entry))) (stores (now (heap .exit)) (now (codes .exit))) (now (out .entry)) (now (out .exit)) r ⌝ }
 {
     reply(bare_run(
@@ -107,3 +107,5 @@ pub extern "C" fn scriptmaker_bare_run(
         out,
     ))
 }
+
+use lambdamix::Mode;

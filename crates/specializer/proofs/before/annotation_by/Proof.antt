@@ -1,7 +1,8 @@
 -- `specializer::before::annotation_by` meets its contract: a bare run leaves the check out. Assumes nothing.
 use mathlib.Core.Path.{_≡_}
-use mathlib.Core.Bool.{Bool, true, false}
 use mathlib.Core.Option.{Option, none}
+use Rattle.lambdamix.specs.declared.Mode.{Mode}
+use Rattle.lambdamix.specs.declared.Mode.the-variants.{Making, BareRun}
 use Rattle.lambdamix.specs.Script.{Script}
 use Rattle.lambdamix.specs.Checker.{Refusal, annotationRefusal}
 use Rattle.script.specs.Replies.{refusalOf}
@@ -10,11 +11,11 @@ use borrow.Author.Needs.{needs}
 use Rattle.specializer.proofs.before.annotation_by.Statement.{statement}
 use Rattle.specializer.proofs.before.annotation_by.Tie as tie
 
-bare-passes : (b : Bool) (s : Script) → b ≡ true → none ≡ annotationBy b s
+bare-passes : (b : Mode) (s : Script) → b ≡ BareRun → none ≡ annotationBy b s
 unfolding annotationBy
 bare-passes b s e = rw e
 
-checked : (b : Bool) (s : Script) {r : Option Refusal} → b ≡ false → r ≡ annotationRefusal s → r ≡ annotationBy b s
+checked : (b : Mode) (s : Script) {r : Option Refusal} → b ≡ Making → r ≡ annotationRefusal s → r ≡ annotationBy b s
 unfolding annotationBy
 checked b s e h = rw e h
 
