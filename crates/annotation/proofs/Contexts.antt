@@ -16,7 +16,7 @@ use Rattle.lambdamix.specs.Types.{Ty, typeOf, typeCount}
 use Rattle.lambdamix.specs.Typing.{Context, bind, typeAt, typeAtBy, inputType, inputTypeBy, contextFrom, inputContext}
 use Rattle.lambdamix.specs.Checker.{typed, faulty, own, provided, varRule}
 use Rattle.script.specs.Refusals.{inputFits}
-use Rattle.annotation.specs.Answers.{pick, limit16, faultLimit, faultAnswer, typeBase, typeAnswer, typeIn, meaning, Stands, givenBy}
+use Rattle.annotation.specs.AnswerWords.{pick, limit16, faultLimit, faultAnswer, typeBase, typeAnswer, typeIn, meaning, Stands, givenBy}
 use Rattle.annotation.specs.Walks.{Pair, Binds, no-binder, one-more, bound, Pushed}
 use Rattle.script.proofs.Sound.{Sound}
 use Rattle.walks.specs.Walks.{Kept}

@@ -11,7 +11,7 @@ use Rattle.lambdamix.specs.Script.{Script}
 use Rattle.lambdamix.specs.Types.{Ty, typeOf}
 use Rattle.lambdamix.specs.Checker.{Checked, typed, faulty, lowerBy, lower, both, Verdict, rule, gather}
 use Rattle.lambdamix.proofs.Tests.{holds-or-fails}
-use Rattle.annotation.specs.Answers.{pick, faultLimit, refusalIn, typeBase, typeIn, meaning, Stands, lowest}
+use Rattle.annotation.specs.AnswerWords.{pick, faultLimit, refusalIn, typeBase, typeIn, meaning, Stands, lowest}
 
 -- some answer that is no fault
 pub data Right {A : Type 0} : Checked A → Type 0 where

@@ -3,7 +3,8 @@ use Rattle.script.specs.declared.Counts.{Counts}
 use Rattle.script.specs.Tables.{Tables, tablesRefusal}
 use Rattle.script.proofs.RefusalLaws.{neither}
 use Rattle.script.proofs.Sound.{Sound, sound}
-use Rattle.annotation.specs.Answers.{scriptOf, Passes}
+use Rattle.annotation.specs.AnswerWords.{Passes}
+use Rattle.annotation.specs.Checks.{scriptOf}
 
 pub passes-sound : (n : Counts) (x : Tables) → Passes n x → Sound (scriptOf n x)
 unfolding tablesRefusal

@@ -16,12 +16,13 @@ use Rattle.lambdamix.specs.Checker.{Checked, typed, rootRule, checkedRoot, anno
 use Rattle.lambdamix.proofs.Tests.{holds-or-fails}
 use Rattle.script.specs.declared.Counts.{Counts}
 use Rattle.script.specs.declared.Verdict.{Verdict}
-use Rattle.script.specs.Replies.{refusalOf}
+use Rattle.script.specs.Verdicts.{refusalOf}
 use Rattle.script.specs.Tables.{Tables, rowType, rowInput, rowNode, tablesRefusal, tablesOf}
 use Rattle.script.specs.Words.{Packed}
 use Rattle.script.proofs.Rows.{type-count, input-count, node-count, type-row, input-row, node-row}
 use Rattle.script.proofs.RefusalLaws.{neither}
-use Rattle.annotation.specs.Answers.{scriptOf, Passes, pick, typeBase, typeIn, meaning, Stands, rootAnswer}
+use Rattle.annotation.specs.AnswerWords.{Passes, pick, typeBase, typeIn, meaning, Stands, rootAnswer}
+use Rattle.annotation.specs.Checks.{scriptOf}
 use Rattle.annotation.specs.Walks.{Lists, Lent, Binds, stackPlaces, Bottom, Answers, Annotated}
 use Rattle.script.proofs.Sound.{Sound}
 use Rattle.annotation.proofs.Passing.{passes-sound}

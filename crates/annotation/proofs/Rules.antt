@@ -16,7 +16,7 @@ use Rattle.lambdamix.specs.Types.{Ty, D, typeOf, typeCount}
 use Rattle.lambdamix.specs.Typing.{Context, bind}
 use Rattle.lambdamix.specs.Checker.{typed, both, gather, rule, own, provided, applyRule, fixRule, abstrBy, abstrRule, abstrDynRule, allDynamic, dynRule, check, checkAll}
 use Rattle.lambdamix.proofs.Tests.{holds-or-fails}
-use Rattle.annotation.specs.Answers.{limit16, pairWord, typeBase, typeAnswer, typeIn, Stands, givenBy, parameterOf, resultOf, applyAnswer, fixAnswer, lowest}
+use Rattle.annotation.specs.AnswerWords.{limit16, pairWord, typeBase, typeAnswer, typeIn, Stands, givenBy, parameterOf, resultOf, applyAnswer, fixAnswer, lowest}
 use Rattle.walks.proofs.TreeForms.{All, at-all}
 use Rattle.annotation.specs.Walks.{Lent, Listing, listed-at, not-listed, bound, Stand, none-left, child-then, other-then, places, inside, Ruled}
 use Rattle.script.proofs.Sound.{Sound, sound}

@@ -1,3 +1,3 @@
 pub mod Checks
-pub mod Answers
+pub mod AnswerWords
 pub mod Walks

@@ -22,11 +22,12 @@ use Rattle.script.specs.declared.Row.{Row}
 use Rattle.script.specs.declared.Verdict.{Verdict}
 use Rattle.script.specs.Refusals.{scriptRefusal}
 use Rattle.script.specs.Tables.{rowNode, tablesOf}
-use Rattle.script.specs.Replies.{refusalOf}
+use Rattle.script.specs.Verdicts.{refusalOf}
 use Rattle.script.specs.KindRows.{rowAt}
 use Rattle.script.specs.Words.{wordKind, Packed}
 use Rattle.walks.specs.Walks.{Kept}
-use Rattle.annotation.specs.Answers.{scriptOf, Passes, pick, highHalf, lowHalf, typeAnswer, faultAnswer, Stands}
+use Rattle.annotation.specs.AnswerWords.{Passes, pick, highHalf, lowHalf, typeAnswer, faultAnswer, Stands}
+use Rattle.annotation.specs.Checks.{scriptOf}
 
 -- two numbers of 16 bits in a word of 32
 pub record Pair (w a b : ℕ) : Type 0 where

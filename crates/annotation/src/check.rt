@@ -9,7 +9,8 @@ ghost use Prim.Native.Nat.{min, _≤_};
 ghost use mathlib.Core.Path.{_≡_};
 ghost use lib.ListN.{length};
 ghost use Rattle.lambdamix.specs.Limits.{maxNodes};
-ghost use Rattle.script.specs.Replies.{refusalOf, Tells};
+ghost use Rattle.script.specs.Replies.{Tells};
+ghost use Rattle.script.specs.Verdicts.{refusalOf};
 ghost use Rattle.script.specs.Tables.{tablesOf};
 ghost use Rattle.annotation.specs.Checks.{checkRefusal};
 

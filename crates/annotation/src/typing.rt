@@ -31,9 +31,9 @@ ghost use lib.ListN.{getD, length, replicate, set};
 ghost use lib.Dec.{eqb};
 ghost use Rattle.lambdamix.specs.Limits.{maxTypes};
 ghost use Rattle.script.specs.Kinds.{isBinder, isChild};
-ghost use Rattle.script.specs.Replies.{refusalOf};
+ghost use Rattle.script.specs.Verdicts.{refusalOf};
 ghost use Rattle.script.specs.Words.{wordKind, wordA};
-ghost use Rattle.annotation.specs.Answers.{applyAnswer, faultAnswer, fixAnswer, givenBy, highHalf, lowHalf, lowest, pairWord, rootAnswer, typeAnswer, typeIn};
+ghost use Rattle.annotation.specs.AnswerWords.{applyAnswer, faultAnswer, fixAnswer, givenBy, highHalf, lowHalf, lowest, pairWord, rootAnswer, typeAnswer, typeIn};
 ghost use Rattle.annotation.specs.Walks.{Annotated, Answers, Bottom, ChildAnswers, Entered, FieldAnswers, Lists, Listing, Pair, Pushed, RowOf, Ruled, bound, parameterBy, unlisted};
 
 // Places of the stack: the inputs, and as many binders as a tree is high.

@@ -21,7 +21,8 @@ ghost use Rattle.script.specs.Columns.{inputsIn, nodesIn, typesIn};
 ghost use Rattle.script.specs.Bytes.{bytes16, bytes32};
 ghost use Rattle.script.specs.File.{typeBytes, inputBytes, nodeBytes, records, numbered, fileBytes, typeOffset, inputOffset, nodeOffset, fileLength};
 ghost use Rattle.script.specs.Tables.{tablesScript, tablesOf};
-ghost use Rattle.script.specs.Replies.{Fitted, Writes};
+ghost use Rattle.script.specs.Replies.{Writes};
+ghost use Rattle.script.specs.Verdicts.{Fitted};
 ghost use Rattle.file.specs.Written.{Put, PutWhole, headRow, nodeParts};
 
 // Two bytes at a place.

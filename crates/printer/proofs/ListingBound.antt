@@ -32,7 +32,7 @@ use Rattle.script.proofs.RefusalLaws.{neither}
 use Rattle.script.proofs.Sound.{Sound, sound}
 use Rattle.walks.proofs.Agreement.{children-fall}
 use Rattle.printer.specs.Nodes.{nodesText}
-use Rattle.printer.specs.Answers.{tablesText, listRefusal, ListsTables}
+use Rattle.printer.specs.ListCalls.{tablesText, listRefusal, ListsTables}
 use Rattle.printer.proofs.NodeLaws.{node-step}
 use Rattle.printer.proofs.Trees.{tree-text}
 use Rattle.printer.proofs.OwnBytes.{total, own-bytes}

@@ -13,7 +13,7 @@ use Rattle.lambdamix.specs.Text.{ascii}
 use Rattle.lambdamix.specs.Listing.{listing}
 use Rattle.script.specs.declared.Counts.{Counts}
 use Rattle.script.specs.declared.Writing.the-variants.{Written, Refused}
-use Rattle.script.specs.Replies.{Fitted}
+use Rattle.script.specs.Verdicts.{Fitted}
 use Rattle.script.specs.File.{numbered}
 use Rattle.script.specs.Tables.{Tables, rowNode, rowInput, tablesScript, tablesRefusal, over}
 use Rattle.script.proofs.RefusalLaws.{neither}
@@ -21,7 +21,8 @@ use Rattle.script.proofs.Numbered.{length-numbered, row-at}
 use Rattle.script.proofs.Sound.{sound}
 use Rattle.script.proofs.Texts.{text-fits, text-short}
 use Rattle.printer.specs.Nodes.{nodesText, wholeText}
-use Rattle.printer.specs.Answers.{tablesText, Lists}
+use Rattle.printer.specs.ListCalls.{tablesText}
+use Rattle.printer.specs.NodeLists.{Lists}
 use Rattle.printer.specs.Places.{Placed, most}
 use Rattle.printer.proofs.Trees.{tree-text}
 

@@ -1,4 +1,5 @@
 pub mod Parts
 pub mod Places
 pub mod Nodes
-pub mod Answers
+pub mod ListCalls
+pub mod NodeLists

@@ -7,7 +7,8 @@ use script::Writing;
 use script::widths::tables_fit;
 use tables::refusal::tables_refusal;
 ghost use Rattle.script.specs.Tables.{tablesOf};
-ghost use Rattle.printer.specs.Answers.{Lists, ListsTables};
+ghost use Rattle.printer.specs.ListCalls.{ListsTables};
+ghost use Rattle.printer.specs.NodeLists.{Lists};
 
 // A first walk, which is lent no room, finds how long the listing is; a second writes it. No listing of a script past
 // refusals 1 to 8 passes 65,536 bytes.

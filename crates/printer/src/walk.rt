@@ -16,7 +16,6 @@ use script::Row;
 use script::column;
 use script::kinds::own_row;
 use script::place::root;
-ghost use mathlib.Core.Path.{_≡_};
 ghost use mathlib.Core.List.{_++_};
 ghost use Rattle.lambdamix.specs.Listing.{nameText};
 ghost use Rattle.printer.specs.Places.{Placed};

@@ -23,7 +23,8 @@ use Rattle.script.specs.declared.Reading.the-variants as Reading
 use Rattle.script.specs.File.{headTypes, headInputs, headNodes, scriptIn}
 use Rattle.script.specs.Refusals.{countsRight, contentOf, contentRefusal, scriptRefusal, markRefusal, earlier, earlierBy, bodyRefusal, fileRefusal, headRefusal}
 use Rattle.script.specs.Tables.{Tables, tablesScript, filled, longEnough, tablesRefusal, readRefusal, readTables}
-use Rattle.script.specs.Replies.{refusalOf, headCounts, readingReply, reading, Reads}
+use Rattle.script.specs.Replies.{headCounts, readingReply, Reads}
+use Rattle.script.specs.Verdicts.{refusalOf, reading}
 use Rattle.script.specs.Columns.{enough}
 use Rattle.script.proofs.ReplyLaws.{reading-reply}
 use Rattle.script.proofs.Numbered.{length-numbered}

@@ -13,7 +13,8 @@ use Rattle.script.specs.declared.Reading.{Reading}
 use Rattle.script.specs.declared.Reading.the-variants as Reading
 use Rattle.script.specs.File.{scriptWith}
 use Rattle.script.specs.Tables.{Tables}
-use Rattle.script.specs.Replies.{reading, headCounts}
+use Rattle.script.specs.Replies.{headCounts}
+use Rattle.script.specs.Verdicts.{reading}
 use Rattle.script.specs.Refusals.{earlierBy, fileRefusal}
 
 -- of a wrong mark and what the tables are refused by, "records in order, mark first; 6, 7, 8": a bad record (3 to 5) at a lower offset

@@ -13,7 +13,7 @@ ghost use mathlib.Core.Path.{_≡_};
 ghost use Prim.Native.Nat.{_+_, _*_};
 ghost use Rattle.lambdamix.specs.Structure.{firstFailing};
 ghost use Rattle.script.specs.Refusals.{marked, refusedRecord, markRefusal};
-ghost use Rattle.script.specs.Replies.{refusalOf};
+ghost use Rattle.script.specs.Verdicts.{refusalOf};
 
 // Whether the two letters stand at a place; past the end stand zeros.
 pub fn marked(file: &[u8], at: usize, x: u8, y: u8) -> bool

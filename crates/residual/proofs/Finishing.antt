@@ -27,7 +27,7 @@ use Rattle.file.proofs.WritingLaws.{put-length, put-both, put-same, put-over}
 use Rattle.residual.specs.declared.Finish.the-variants as Finish
 use Rattle.residual.specs.Cells.{spend, roomOf}
 use Rattle.residual.specs.AfterRun.{writtenBy, afterRun}
-use Rattle.residual.specs.Answers.{Counted, replyOf, outcome}
+use Rattle.residual.specs.Emission.{Counted, replyOf, outcome}
 use Rattle.residual.proofs.Spending.{Spent, left, spent, spend-fits, spend-size}
 
 -- ---- counts

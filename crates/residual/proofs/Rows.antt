@@ -14,7 +14,7 @@ use Rattle.script.specs.declared.Row.{Row}
 use Rattle.script.specs.Kinds.{usesTable, useOf}
 use Rattle.script.specs.KindRows.{rowAt}
 use Rattle.residual.specs.Cells.{sortOf, codeBy, pieceBy, rowPieces, pieces}
-use Rattle.residual.specs.Answers.{fieldBy, rowNode}
+use Rattle.residual.specs.Emission.{fieldBy, rowNode}
 
 -- ---- one field
 

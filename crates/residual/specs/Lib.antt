@@ -1,3 +1,3 @@
 pub mod Cells
 pub mod AfterRun
-pub mod Answers
+pub mod Emission

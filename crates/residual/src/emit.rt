@@ -27,7 +27,7 @@ ghost use Rattle.script.specs.File.{nodeBytes, numbered};
 ghost use Rattle.file.specs.Written.{PutWhole};
 ghost use Rattle.residual.specs.Cells.{codeAt, codeBelow, pieceBy, rowPieces};
 ghost use Rattle.residual.specs.AfterRun.{afterRun};
-ghost use Rattle.residual.specs.Answers.{farthest, Emits, EmitsOver, EmitsField, rowNode, outcome};
+ghost use Rattle.residual.specs.Emission.{farthest, Emits, EmitsOver, EmitsField, rowNode, outcome};
 
 // How a field is written: what stands in it, and the number of the next node.
 struct Field {

@@ -14,7 +14,7 @@ ghost use lib.ListN.{length, getD};
 ghost use Rattle.lambdamix.specs.declared.Use.the-variants.{Child};
 ghost use Rattle.lambdamix.specs.Code.{Code, nilC, ref};
 ghost use Rattle.residual.specs.Cells.{codeAt, codeBelow, pieceBy, rowPieces, spendOne, roomOf, Spends, SpendsUnder, SpendsAll};
-ghost use Rattle.residual.specs.Answers.{Counted};
+ghost use Rattle.residual.specs.Emission.{Counted};
 
 // One node, as a variable is.
 fn spend_node(room: u16, height: u16) -> u16

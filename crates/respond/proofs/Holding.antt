@@ -19,12 +19,13 @@ use Rattle.script.specs.File.{fileLength, headTypes, headInputs, headNodes, scr
 use Rattle.script.specs.Refusals.{fileRefusal}
 use Rattle.file.specs.Encodable.{AllBytes}
 use Rattle.script.specs.Tables.{Tables, filled, longEnough, readRefusal, readTables}
-use Rattle.script.specs.Replies.{headCounts, reading, Reads}
+use Rattle.script.specs.Replies.{headCounts, Reads}
+use Rattle.script.specs.Verdicts.{reading}
 use Rattle.script.proofs.ReplyLaws.{read-answer}
 use Rattle.script.proofs.Sound.{in-limits}
 use Rattle.reading.proofs.FillLaws.{file-held, filled-long}
 use Rattle.file.proofs.FileLaws.{read-fits, script-counts, script-passes}
-use Rattle.printer.specs.Answers.{tablesText}
+use Rattle.printer.specs.ListCalls.{tablesText}
 use Rattle.printer.proofs.Writing.{join}
 use Rattle.printer.proofs.ListingBound.{listing-bytes}
 use Rattle.respond.specs.Stages.{listingBytes, ListsAt, ListsReading, ListsFile, PrintsMade, Held}

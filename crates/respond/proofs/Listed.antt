@@ -10,12 +10,12 @@ use Rattle.lambdamix.specs.Structure.{orElse, refusedUnless}
 use Rattle.script.specs.declared.Counts.{Counts}
 use Rattle.script.specs.declared.Refusal as Told
 use Rattle.script.specs.Tables.{Tables, tablesRefusal, roomRefusal, writtenOutput}
-use Rattle.script.specs.Replies.{writing}
+use Rattle.script.specs.Verdicts.{writing}
 use Rattle.script.proofs.ReplyLaws.{written-answer}
 use Rattle.script.specs.declared.Writing.{Writing}
 use Rattle.script.specs.declared.Writing.the-variants.{Written, Refused}
 use Rattle.printer.specs.Places.{Put, most}
-use Rattle.printer.specs.Answers.{tablesText, listRefusal, ListsTables}
+use Rattle.printer.specs.ListCalls.{tablesText, listRefusal, ListsTables}
 use Rattle.printer.proofs.Writing.{placed}
 use Rattle.respond.specs.Stages.{ListsAt}
 

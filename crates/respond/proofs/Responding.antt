@@ -29,7 +29,7 @@ use Rattle.respond.specs.Response.{inputReply, replyTo, replyText, respo
 use Rattle.streams.specs.Lines.{unmadeText}
 use Rattle.streams.specs.Input.{scriptLength, scriptPart, settingsPart}
 use Rattle.script.specs.Replies.{replying}
-use Rattle.respond.specs.Answers.{responseReply, outputRefusal, Responds}
+use Rattle.respond.specs.Responds.{responseReply, outputRefusal, Responds}
 use Rattle.respond.specs.Stages.{AnswersScript, AnswersReading, Answers}
 use Rattle.streams.specs.Printed.{Prints}
 use Rattle.streams.proofs.Splitting.{front-part, back-part}

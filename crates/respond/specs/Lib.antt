@@ -1,3 +1,3 @@
 pub mod Response
-pub mod Answers
+pub mod Responds
 pub mod Stages

@@ -1,7 +1,7 @@
 -- What the stages of `respond` promise: listings printed, a script answered. Assumes nothing.
 use Prim.Native.Nat.{ℕ, _+_, _*_, _≤_}
 use mathlib.Core.Path.{_≡_}
-use mathlib.Core.Bool.{true, false}
+use mathlib.Core.Bool.{true}
 use mathlib.Core.List.{List, _++_}
 use mathlib.Core.Option.{none}
 use lib.ListN.{length, take}
@@ -20,7 +20,7 @@ use Rattle.script.specs.Replies.{headCounts}
 use Rattle.file.specs.Encodable.{AllBytes}
 use Rattle.script.specs.Tables.{Tables, tablesScript, tablesRefusal, longEnough}
 use Rattle.printer.specs.Places.{Placed}
-use Rattle.printer.specs.Answers.{tablesText}
+use Rattle.printer.specs.ListCalls.{tablesText}
 use Rattle.specializer.specs.declared.Reply.{Reply}
 use Rattle.machine.specs.Room.{Stores, storesSuffice}
 use Rattle.specializer.specs.Making.{making}

@@ -8,7 +8,7 @@ use script::limits::MAX_INPUTS;
 use script::limits::MAX_NODES;
 use script::limits::MAX_TYPES;
 use streams::split::script_end;
-ghost use Rattle.respond.specs.Answers.{Responds};
+ghost use Rattle.respond.specs.Responds.{Responds};
 ghost use Rattle.respond.specs.Stages.{Answers};
 
 // The script is read into tables that start as zeros; what is not refused is made and printed.

@@ -14,7 +14,8 @@ use Rattle.script.specs.declared.Reading.{Reading}
 use Rattle.script.specs.declared.Reading.the-variants as Reading
 use Rattle.script.specs.declared.Writing.{Writing}
 use Rattle.script.specs.declared.Writing.the-variants as Writing
-use Rattle.script.specs.Replies.{Reply, replying, verdictReply, readingReply, writingReply, refusalOf, reading, writing, headCounts, Tells, Reads, WritesText}
+use Rattle.script.specs.Replies.{Reply, replying, verdictReply, readingReply, writingReply, headCounts, Tells, Reads, WritesText}
+use Rattle.script.specs.Verdicts.{refusalOf, reading, writing}
 use Rattle.script.specs.Tables.{Tables, readRefusal}
 
 apart : {A B : Type 0} (a : A) → some a ≡ none → B

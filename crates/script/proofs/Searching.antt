@@ -6,7 +6,7 @@ use mathlib.Core.Option.{Option, none, some}
 use native.Mathlib.Omega.{arith}
 use Rattle.lambdamix.specs.Structure.{firstBy, firstFailing}
 use Rattle.script.specs.declared.Found.{Found}
-use Rattle.script.specs.Replies.{foundAt, FoundBelow}
+use Rattle.script.specs.Verdicts.{foundAt, FoundBelow}
 
 -- the places before i of n passed the test
 pub record Searching (p : ℕ → Bool) (i n : ℕ) : Type 0 where

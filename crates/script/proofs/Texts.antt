@@ -1,7 +1,7 @@
 -- A text that is written: whole where it has room, refused where it has not, and behind a check that may refuse it first.
 -- Assumes nothing.
 use Prim.Native.Nat.{ℕ, _≤_, _<_}
-use mathlib.Core.Path.{_≡_, ap}
+use mathlib.Core.Path.{_≡_}
 use mathlib.Core.Bool.{true, false}
 use mathlib.Core.List.{List}
 use mathlib.Core.Option.{Option}
@@ -17,7 +17,8 @@ use Rattle.script.specs.declared.Verdict.the-variants as Verdict
 use Rattle.script.specs.declared.Writing.{Writing}
 use Rattle.script.specs.declared.Writing.the-variants as Writing
 use Rattle.script.specs.Tables.{over, roomRefusal, writtenOutput}
-use Rattle.script.specs.Replies.{replying, writingReply, refusalOf, WritesText, Fitted}
+use Rattle.script.specs.Replies.{replying, writingReply, WritesText}
+use Rattle.script.specs.Verdicts.{refusalOf, Fitted}
 use Rattle.script.proofs.Verdicts.{told-none}
 
 module _ {text before after : List ℕ} where

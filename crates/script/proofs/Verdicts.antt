@@ -6,7 +6,7 @@ use Rattle.lambdamix.specs.Structure.{orElse}
 use Rattle.script.specs.declared.Refusal.{Refusal}
 use Rattle.script.specs.declared.Verdict.{Verdict}
 use Rattle.script.specs.declared.Verdict.the-variants as Verdict
-use Rattle.script.specs.Replies.{refusalOf}
+use Rattle.script.specs.Verdicts.{refusalOf}
 
 module _ {v : Verdict} {p : Option Checker.Refusal} (told : refusalOf v ≡ p) where
   pub told-none : v ≡ Verdict.Passed → p ≡ none

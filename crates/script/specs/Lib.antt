@@ -8,3 +8,4 @@ pub mod Tables
 pub mod Widths
 pub mod Replies
 pub mod Words
+pub mod Verdicts

@@ -1,7 +1,7 @@
 -- The answers of reader, writer and checks as the code gives them, with the paper's number and values for each case: "A reply
 -- carries number, place and steps .. a success has number 0 and place 0". Reader, writer and checks take no steps. The last
 -- definitions are what these entries promise. Assumes nothing.
-use Prim.Native.Nat.{ℕ, _<_}
+use Prim.Native.Nat.{ℕ}
 use mathlib.Core.List.{List}
 use mathlib.Core.Path.{_≡_}
 use mathlib.Core.Option.{Option, none, some}
@@ -14,25 +14,9 @@ use Rattle.script.specs.declared.Reading.{Reading}
 use Rattle.script.specs.declared.Reading.the-variants as Reading
 use Rattle.script.specs.declared.Writing.{Writing}
 use Rattle.script.specs.declared.Writing.the-variants as Writing
-use Rattle.script.specs.declared.Found.{Found}
-use Rattle.script.specs.declared.Found.the-variants as Found
 use Rattle.script.specs.File.{headTypes, headInputs, headNodes, fileBytes}
 use Rattle.script.specs.Widths.{LentTables}
-use Rattle.script.specs.Tables.{Tables, tablesScript, readRefusal, readTables, roomRefusal, writeRefusal, writtenOutput}
-
--- a place, or none
-unfoldable pub foundAt : Found → Option ℕ
-foundAt Found.Nowhere = none
-foundAt (Found.At i) = some i
-
--- what was found, if anything, is below n
-abbrev pub FoundBelow : ℕ → Found → Type 0
-FoundBelow n f = (j : ℕ) → foundAt f ≡ some j → j < n
-
--- what a verdict refuses, if anything: for checks within a crate
-unfoldable pub refusalOf : Verdict → Option Checker.Refusal
-refusalOf Verdict.Passed = none
-refusalOf (Verdict.Refused f) = some (record { number = f .number; place = f .place })
+use Rattle.script.specs.Tables.{Tables, tablesScript, readRefusal, readTables, writeRefusal, writtenOutput}
 
 -- a reply: number, place, and the values that only a success carries
 pub record Reply (A : Type 0) : Type 0 where
@@ -60,15 +44,6 @@ unfoldable pub writingReply : Writing → Reply ℕ
 writingReply (Writing.Written k) = record { number = 0; place = 0; carried = some k }
 writingReply (Writing.Refused f) = record { number = f .number; place = f .place; carried = none }
 
--- the answers of reader, writer and listing with this reply
-unfoldable pub reading : Option Checker.Refusal → Counts → Reading
-reading none n = Reading.Read n
-reading (some f) n = Reading.Refused (record { number = f .number; place = f .place })
-
-unfoldable pub writing : Option Checker.Refusal → ℕ → Writing
-writing none k = Writing.Written k
-writing (some f) k = Writing.Refused (record { number = f .number; place = f .place })
-
 -- what a check promises: that this refuses, if anything
 pub record Tells (f : Option Checker.Refusal) (r : Verdict) : Type 0 where
   pub reply : verdictReply r ≡ replying f tt
@@ -86,10 +61,6 @@ pub record Reads (bs : List ℕ) (before after : Tables) (r : Reading) : Type 0 
 pub record WritesText (f : Option Checker.Refusal) (text before after : List ℕ) (r : Writing) : Type 0 where
   pub reply : writingReply r ≡ replying f (length text)
   pub output : after ≡ writtenOutput f text before
-
--- where only a short output refuses it
-abbrev pub Fitted : List ℕ → List ℕ → List ℕ → Writing → Type 0
-Fitted text before after r = WritesText (roomRefusal text before) text before after r
 
 -- what the writer promises of counts, tables and the output before and after; and that what it was lent has its columns' widths
 pub record Writes (n : Counts) (x : Tables) (before after : List ℕ) (r : Writing) : Type 0 where

@@ -13,7 +13,7 @@ use Rattle.lambdamix.specs.Script.{Script, FunctionType, Node}
 use Rattle.lambdamix.specs.Checker.{Refusal}
 use Rattle.lambdamix.specs.Structure.{orElse, refusedUnless}
 use Rattle.script.specs.File.{numbered, headTypes, headInputs, headNodes, scriptIn, fileBytes}
-use Rattle.script.specs.Refusals.{countsRight, contentOf, scriptRefusal, fileRefusal}
+use Rattle.script.specs.Refusals.{scriptRefusal, fileRefusal}
 use Rattle.script.specs.Columns.{typesIn, inputsIn, nodesIn, enough}
 
 -- two type columns, the input column, five node columns
@@ -49,11 +49,6 @@ unfoldable pub longEnough : ℕ → ℕ → ℕ → Tables → Bool
 longEnough t i n x =
     enough t i n (length (x .parameters)) (length (x .results)) (length (x .inputs)) (length (x .kinds)) (length (x .a))
     (length (x .b)) (length (x .c)) (length (x .values))
-
--- refusals 3, 4 and 5 of counts and tables
-unfoldable pub contentIn : ℕ → ℕ → ℕ → Tables → Option Refusal
-contentIn t i n x =
-    orElse (refusedUnless (countsRight t i n) 3 0) (contentOf t i n (rowType x) (rowInput x) (rowNode x))
 
 -- refusals 1 to 8 of counts and tables
 unfoldable pub tablesRefusal : ℕ → ℕ → ℕ → Tables → Option Refusal

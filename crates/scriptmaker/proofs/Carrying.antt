@@ -2,7 +2,6 @@
 -- Assumes nothing.
 use Prim.Native.Nat.{ℕ}
 use mathlib.Core.Path.{_≡_, ap, subst, _∙_}
-use mathlib.Core.Bool.{Bool}
 use mathlib.Core.List.{List}
 use mathlib.Core.Option.{Option}
 use lib.IntN.{ℤ}
@@ -21,7 +20,7 @@ use Rattle.specializer.specs.declared.Reply.{Reply}
 use Rattle.machine.specs.Room.{Stores}
 use Rattle.specializer.specs.Entry as Entry
 use Rattle.specializer.specs.Entry.{replied}
-use Rattle.printer.specs.Answers.{ListsTables}
+use Rattle.printer.specs.ListCalls.{ListsTables}
 use Rattle.scriptmaker.specs.declared.Counts.{Counts}
 use Rattle.scriptmaker.specs.declared.ReadReply.{ReadReply}
 use Rattle.scriptmaker.specs.declared.WriteReply.{WriteReply}

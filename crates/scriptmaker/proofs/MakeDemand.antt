@@ -2,7 +2,6 @@
 -- Assumes nothing.
 use Prim.Native.Nat.{ℕ}
 use mathlib.Core.Path.{_≡_}
-use mathlib.Core.Bool.{false}
 use mathlib.Core.List.{List}
 use mathlib.Core.Option.{none}
 use lib.IntN.{ℤ}
@@ -10,7 +9,7 @@ use Rattle.lambdamix.specs.declared.Mode.the-variants.{Making}
 use Rattle.script.specs.declared.Counts as Script
 use Rattle.script.specs.Tables.{Tables}
 use Rattle.annotation.specs.Checks.{checkRefusal}
-use Rattle.residual.specs.AfterRun.{Reply, made, unmade, numberIn, stepsIn, nodesIn}
+use Rattle.residual.specs.AfterRun.{Reply, numberIn, stepsIn, nodesIn}
 use Rattle.machine.specs.Room.{Stores}
 use Rattle.specializer.specs.EntryDemand.{KeepsDemandThree}
 use Rattle.specializer.proofs.EntryDemand.{making-keeps}

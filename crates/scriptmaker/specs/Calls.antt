@@ -2,7 +2,6 @@
 -- the paper's number and place (0 and 0 of a success) stand in a struct. Assumes nothing.
 use Prim.Native.Nat.{ℕ}
 use mathlib.Core.Path.{_≡_}
-use mathlib.Core.Bool.{Bool}
 use mathlib.Core.List.{List}
 use mathlib.Core.Option.{Option, none, some}
 use lib.IntN.{ℤ}
@@ -20,7 +19,7 @@ use Rattle.residual.specs.AfterRun.{numberIn, placeIn, stepsIn, nodesIn}
 use Rattle.machine.specs.Room.{Stores}
 use Rattle.specializer.specs.Making.{making, refusalBefore, storesAfter}
 use Rattle.specializer.specs.Entry.{GivenFit}
-use Rattle.printer.specs.Answers.{tablesText, listRefusal}
+use Rattle.printer.specs.ListCalls.{tablesText, listRefusal}
 use Rattle.scriptmaker.specs.declared.Counts.{Counts}
 use Rattle.scriptmaker.specs.declared.ReadReply.{ReadReply}
 use Rattle.scriptmaker.specs.declared.WriteReply.{WriteReply}

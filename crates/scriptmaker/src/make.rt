@@ -6,7 +6,6 @@ use specializer::Reply;
 use specializer::make::bare_run;
 use specializer::make::make;
 ghost use mathlib.Core.Path.{_≡_};
-ghost use mathlib.Core.Bool.{true, false};
 ghost use Rattle.script.specs.Tables.{tablesOf};
 ghost use Rattle.specializer.specs.Entry.{stores, replied};
 ghost use Rattle.scriptmaker.specs.Calls.{makeReply, Makes};

@@ -27,8 +27,9 @@ use Rattle.lambdamix.specs.Code.{node}
 use Rattle.script.specs.declared.Found.{Found}
 use Rattle.script.specs.Refusals.{fieldRight, fieldsRight, nodeFits, isNone, otherPair, typeFits, inputFits, countsRight, refusedRecord, contentOf}
 use Rattle.script.specs.File.{typeOffset, inputOffset, nodeOffset}
-use Rattle.script.specs.Tables.{Tables, rowType, rowInput, rowNode, contentIn}
-use Rattle.script.specs.Replies.{foundAt}
+use Rattle.script.specs.Tables.{Tables, rowType, rowInput, rowNode}
+use Rattle.tables.specs.Contents.{contentIn}
+use Rattle.script.specs.Verdicts.{foundAt}
 use Rattle.script.proofs.TableLaws.{every, row-uses}
 
 and-false : (b : Bool) → (b && false) ≡ false

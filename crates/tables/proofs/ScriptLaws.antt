@@ -18,11 +18,12 @@ use Rattle.lambdamix.specs.Checker.{Refusal}
 use Rattle.lambdamix.proofs.Tests.{and-both}
 use Rattle.script.specs.File.{typeOffset, inputOffset, nodeOffset}
 use Rattle.script.specs.Refusals.{typeFits, inputFits, nodeFits, otherPair, samePair, refusedRecord, countsRight, contentOf, contentRefusal, scriptRefusal}
-use Rattle.script.specs.Tables.{Tables, rowType, rowInput, rowNode, tablesScript, longEnough, tablesRefusal, tablesOf, contentIn}
+use Rattle.script.specs.Tables.{Tables, rowType, rowInput, rowNode, tablesScript, longEnough, tablesRefusal, tablesOf}
+use Rattle.tables.specs.Contents.{contentIn}
 use Rattle.script.specs.Columns.{enough}
 use Rattle.script.specs.Words.{Packed}
 use Rattle.walks.specs.Walks.{Structured}
-use Rattle.script.specs.Replies.{foundAt, refusalOf}
+use Rattle.script.specs.Verdicts.{foundAt, refusalOf}
 use Rattle.script.specs.declared.Found.{Found}
 use Rattle.script.specs.declared.Refusal as Refused
 use Rattle.script.specs.declared.Verdict.{Verdict}

@@ -10,7 +10,7 @@ use Rattle.lambdamix.specs.Script.{Node}
 use Rattle.script.specs.declared.Found.{Found}
 use Rattle.script.specs.declared.Verdict.{Verdict}
 use Rattle.script.specs.declared.Verdict.the-variants as Verdict
-use Rattle.script.specs.Replies.{foundAt}
+use Rattle.script.specs.Verdicts.{foundAt}
 use Rattle.script.specs.Tables.{Tables, rowNode}
 use Rattle.script.specs.Words.{Packed}
 

@@ -23,10 +23,11 @@ ghost use Rattle.lambdamix.specs.Arithmetic.{eqZ};
 ghost use Rattle.lambdamix.specs.Limits.{maxNodes};
 ghost use Rattle.lambdamix.specs.Structure.{firstFailing};
 ghost use Rattle.script.specs.Refusals.{otherPair, typeFits, inputFits, fieldRight, fieldsRight, nodeFits};
-ghost use Rattle.script.specs.Replies.{foundAt, refusalOf};
+ghost use Rattle.script.specs.Verdicts.{foundAt, refusalOf};
 ghost use Rattle.lambdamix.specs.Code.{node};
 ghost use Rattle.script.specs.Columns.{typesIn, inputsIn, nodesIn};
-ghost use Rattle.script.specs.Tables.{tablesOf, contentIn};
+ghost use Rattle.script.specs.Tables.{tablesOf};
+ghost use Rattle.tables.specs.Contents.{contentIn};
 ghost use Rattle.tables.specs.PackedTables.{HoldNodes, PackedNodes, PackedTables};
 
 fn wide(t: TypeNumber) -> usize

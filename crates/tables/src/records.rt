@@ -11,7 +11,7 @@ ghost use mathlib.Core.Path.{_≡_};
 ghost use Rattle.lambdamix.specs.Structure.{orElse};
 ghost use Rattle.script.specs.File.{typeOffset, inputOffset, nodeOffset};
 ghost use Rattle.script.specs.Refusals.{refusedRecord};
-ghost use Rattle.script.specs.Replies.{foundAt, refusalOf, FoundBelow};
+ghost use Rattle.script.specs.Verdicts.{foundAt, refusalOf, FoundBelow};
 
 // The first bad record of three searches: 4 for a type or an input, 5 for a node.
 pub(crate) fn record_refusal(

@@ -14,7 +14,8 @@ ghost use lib.ListN.{length};
 ghost use Rattle.lambdamix.specs.Limits.{maxNodes};
 ghost use Rattle.script.specs.Refusals.{scriptRefusal};
 ghost use Rattle.script.specs.Tables.{tablesScript, tablesRefusal, tablesOf};
-ghost use Rattle.script.specs.Replies.{refusalOf, Tells};
+ghost use Rattle.script.specs.Replies.{Tells};
+ghost use Rattle.script.specs.Verdicts.{refusalOf};
 ghost use Rattle.script.specs.Columns.{enough};
 ghost use Rattle.tables.specs.PackedTables.{HoldNodes, PackedTables};
 

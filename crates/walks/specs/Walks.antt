@@ -20,7 +20,7 @@ use Rattle.script.specs.KindRows.{rowAt}
 use Rattle.script.specs.Refusals.{nodeFits}
 use Rattle.script.specs.Tables.{Tables, rowNode, tablesScript}
 use Rattle.script.specs.Words.{wordKind, wordA, wordB, wordC, Columns, Packed}
-use Rattle.script.specs.Replies.{refusalOf}
+use Rattle.script.specs.Verdicts.{refusalOf}
 
 -- the columns of tables
 abbrev pub columnsOf : Tables → Columns

@@ -31,8 +31,8 @@ ghost use lib.Dec.{eqb};
 ghost use Rattle.lambdamix.specs.Limits.{maxNodes, maxHeight};
 ghost use Rattle.lambdamix.specs.Falling.{below};
 ghost use Rattle.lambdamix.specs.Structure.{occurrences, firstFailing, member, refusedAt, orElse};
-ghost use Rattle.script.specs.Kinds.{isBinder, isChild};
-ghost use Rattle.script.specs.Replies.{foundAt, refusalOf};
+ghost use Rattle.script.specs.Kinds.{isChild};
+ghost use Rattle.script.specs.Verdicts.{foundAt, refusalOf};
 ghost use Rattle.script.specs.Words.{wordA, wordB, wordC, columnsIn};
 ghost use Rattle.walks.specs.Walks.{keptIf, rowChildren, wordChildren, usesBelow, usedOnceAt, Counted, heightAt, tooHighAt, heightOver, Tall, TallOver, TallJoin, TallNode, unboundName, unboundField, unboundBy, unboundBelow, unboundAt, innermost, Entered, Lower, Scoped, Structured};
 

@@ -2,7 +2,7 @@
 use Prim.Native.Nat.{ℕ, _/_, _≤_, _<_}
 use mathlib.Core.Path.{_≡_}
 use borrow.Author.Tests.{le-leb, lt-leb}
-use Rattle.annotation.specs.Answers.{faultLimit, lowest}
+use Rattle.annotation.specs.AnswerWords.{faultLimit, lowest}
 use Rattle.annotation.proofs.typing.lower.Statement.{statement}
 use Rattle.annotation.proofs.typing.lower.Tie as tie
 

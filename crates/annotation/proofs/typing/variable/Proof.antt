@@ -8,7 +8,7 @@ use native.Mathlib.Omega.{arith}
 use lib.ListN.{getD, length}
 use lib.Dec.{eqb}
 use borrow.Author.Tests.{eq-eqb, ne-eqb}
-use Rattle.annotation.specs.Answers.{pick, highHalf, lowHalf, typeAnswer}
+use Rattle.annotation.specs.AnswerWords.{pick, highHalf, lowHalf, typeAnswer}
 use Rattle.annotation.specs.Walks.{bound}
 use Rattle.annotation.proofs.typing.variable.Statement.{statement}
 use Rattle.annotation.proofs.typing.variable.Tie as tie

@@ -3,8 +3,8 @@ use borrow.Author.Needs.{needs}
 use borrow.Author.Tests.{lt-ltb, le-ltb, eq-eqb, ne-eqb}
 use mathlib.Core.Path.{_∙_}
 use native.Mathlib.Omega.{arith}
-use Rattle.script.specs.Replies.{refusalOf}
-use Rattle.annotation.specs.Answers.{typeIn, rootAnswer}
+use Rattle.script.specs.Verdicts.{refusalOf}
+use Rattle.annotation.specs.AnswerWords.{typeIn, rootAnswer}
 use Rattle.annotation.proofs.typing.verdict.Statement.{statement}
 use Rattle.annotation.proofs.typing.verdict.Tie as tie
 

@@ -3,7 +3,7 @@ use borrow.Author.Needs.{needs}
 use Rattle.script.proofs.ReplyLaws.{told-by}
 use Rattle.script.proofs.Verdicts.{told-none}
 use Rattle.script.proofs.Texts.{writes-passed, writes-refused}
-use Rattle.printer.specs.Answers.{listRefusal}
+use Rattle.printer.specs.ListCalls.{listRefusal}
 use Rattle.printer.proofs.list.list.Statement.{statement}
 use Rattle.printer.proofs.list.list.Tie as tie
 

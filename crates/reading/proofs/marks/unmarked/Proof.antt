@@ -5,7 +5,7 @@ use mathlib.Core.Bool.{Bool}
 use mathlib.Core.List.{List}
 use native.Mathlib.Omega.{arith}
 use Rattle.script.specs.Refusals.{marked, refusedRecord}
-use Rattle.script.specs.Replies.{refusalOf}
+use Rattle.script.specs.Verdicts.{refusalOf}
 use Rattle.script.proofs.Searching.{Searching, search-begins, search-goes-on, search-finds, search-ends}
 use Rattle.reading.proofs.marks.unmarked.Statement.{statement}
 use Rattle.reading.proofs.marks.unmarked.Tie as tie

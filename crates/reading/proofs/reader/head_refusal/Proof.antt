@@ -2,7 +2,7 @@
 use borrow.Author.Tests.{le-leb, lt-leb, eq-eqb, ne-eqb}
 use mathlib.Core.Path.{refl, sym, _∙_}
 use Rattle.lambdamix.specs.Structure.{orElse, refusedUnless}
-use Rattle.script.specs.Replies.{refusalOf}
+use Rattle.script.specs.Verdicts.{refusalOf}
 use Rattle.reading.proofs.HeadLaws.{head-by-tests, counts-told, length-told}
 use Rattle.reading.proofs.reader.head_refusal.Statement.{statement}
 use Rattle.reading.proofs.reader.head_refusal.Tie as tie

@@ -2,7 +2,7 @@
 use borrow.Author.Needs.{needs}
 use borrow.Author.Tests.{lt-ltb, le-ltb}
 use Rattle.script.specs.Refusals.{earlierBy}
-use Rattle.script.specs.Replies.{refusalOf}
+use Rattle.script.specs.Verdicts.{refusalOf}
 use Rattle.reading.specs.Heads.{marksFirst}
 use Rattle.reading.proofs.reader.marks_first.Statement.{statement}
 use Rattle.reading.proofs.reader.marks_first.Tie as tie

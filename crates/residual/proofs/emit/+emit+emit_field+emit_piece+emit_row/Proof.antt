@@ -15,7 +15,7 @@ use Rattle.lambdamix.specs.Code.{after}
 use Rattle.script.specs.declared.Row.{Row}
 use Rattle.script.specs.KindRows.{rowAt}
 use Rattle.residual.specs.Cells.{codeAt, codeBelow, rowPieces}
-use Rattle.residual.specs.Answers.{farthest, Emits, EmitsOver, rowNode}
+use Rattle.residual.specs.Emission.{farthest, Emits, EmitsOver, rowNode}
 use Rattle.residual.proofs.Rows.{not-child, HasRow, ByRow, variable, function, application, fix, choice, operation}
 use Rattle.residual.proofs.CellLaws.{below-there, below-none, is-variable, is-row, is-constant}
 use Rattle.residual.proofs.Emission.{low-constant, emits-constant, emits-variable, emits-plain, child-low, emits-child}

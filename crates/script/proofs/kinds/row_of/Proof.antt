@@ -1,5 +1,4 @@
 -- `script::kinds::row_of` meets its contract: each field's use is the table's. Assumes nothing.
-use borrow.Author.Needs.{needs}
 use Rattle.script.specs.KindRows.{rowAt}
 use Rattle.script.proofs.kinds.row_of.Statement.{statement}
 use Rattle.script.proofs.kinds.row_of.Tie as tie

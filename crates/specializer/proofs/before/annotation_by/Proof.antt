@@ -5,7 +5,7 @@ use Rattle.lambdamix.specs.declared.Mode.{Mode}
 use Rattle.lambdamix.specs.declared.Mode.the-variants.{Making, BareRun}
 use Rattle.lambdamix.specs.Script.{Script}
 use Rattle.lambdamix.specs.Checker.{Refusal, annotationRefusal}
-use Rattle.script.specs.Replies.{refusalOf}
+use Rattle.script.specs.Verdicts.{refusalOf}
 use Rattle.lambdamix.specs.Specializing.{annotationBy}
 use borrow.Author.Needs.{needs}
 use Rattle.specializer.proofs.before.annotation_by.Statement.{statement}

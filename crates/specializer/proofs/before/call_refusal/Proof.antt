@@ -3,7 +3,7 @@ use mathlib.Core.Path.{ap}
 use native.Mathlib.Omega.{arith}
 use Rattle.lambdamix.specs.Limits.{maxFuel}
 use Rattle.lambdamix.specs.Specializing.{staticInputs}
-use Rattle.script.specs.Replies.{refusalOf}
+use Rattle.script.specs.Verdicts.{refusalOf}
 use Rattle.specializer.proofs.Refusing.{wrong-settings, wrong-fuel, right-call}
 use borrow.Author.Needs.{needs}
 use Rattle.specializer.proofs.before.call_refusal.Statement.{statement}

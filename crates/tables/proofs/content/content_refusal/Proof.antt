@@ -4,7 +4,7 @@ use mathlib.Core.Path.{sym, _∙_}
 use native.Mathlib.Omega.{arith}
 use Rattle.lambdamix.specs.Limits.{maxTypes, maxInputs, maxNodes}
 use Rattle.script.specs.Tables.{rowType, rowInput, rowNode}
-use Rattle.script.specs.Replies.{refusalOf}
+use Rattle.script.specs.Verdicts.{refusalOf}
 use Rattle.script.proofs.Searching.{found-below}
 use Rattle.script.proofs.Sound.{in-limits}
 use Rattle.tables.proofs.ContentLaws.{wrong-counts, content-by-searches}

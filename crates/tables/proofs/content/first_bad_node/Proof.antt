@@ -10,7 +10,7 @@ use mir.Facts.{toZ-ofZ}
 use Rattle.lambdamix.specs.Limits.{maxNodes}
 use Rattle.script.specs.Columns.{nodesIn}
 use Rattle.script.specs.Refusals.{nodeFits}
-use Rattle.script.specs.Replies.{foundAt}
+use Rattle.script.specs.Verdicts.{foundAt}
 use Rattle.script.specs.Words.{Packed}
 use Rattle.script.proofs.WordLaws.{holds-row, packed-none, packed-more}
 use Rattle.tables.proofs.ContentLaws.{node-told}

@@ -2,7 +2,7 @@
 use borrow.Author.Needs.{needs}
 use native.Mathlib.Omega.{arith}
 use Rattle.script.specs.Refusals.{isNone}
-use Rattle.script.specs.Replies.{foundAt}
+use Rattle.script.specs.Verdicts.{foundAt}
 use Rattle.tables.proofs.ContentLaws.{wrong-parameter, wrong-result, right-by-pairs}
 use Rattle.tables.proofs.content.type_right.Statement.{statement}
 use Rattle.tables.proofs.content.type_right.Tie as tie

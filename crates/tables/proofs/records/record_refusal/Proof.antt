@@ -4,7 +4,7 @@ use mathlib.Core.Path.{ap}
 use native.Mathlib.Omega.{arith}
 use Rattle.lambdamix.specs.Structure.{orElse}
 use Rattle.script.specs.Refusals.{refusedRecord}
-use Rattle.script.specs.Replies.{foundAt, refusalOf}
+use Rattle.script.specs.Verdicts.{foundAt, refusalOf}
 use Rattle.tables.proofs.records.record_refusal.Statement.{statement}
 use Rattle.tables.proofs.records.record_refusal.Tie as tie
 

@@ -5,7 +5,7 @@ use Prim.Native.Nat.{_-_}
 use mathlib.Core.Path.{sym, _∙_}
 use lib.ListN.{getD}
 use lib.Dec.{eqb}
-use Rattle.script.specs.Replies.{foundAt}
+use Rattle.script.specs.Verdicts.{foundAt}
 use Rattle.script.proofs.Searching.{Searching, search-begins, search-goes-on, search-finds, search-ends}
 use Rattle.walks.proofs.structure.first_not_one.Statement.{statement}
 use Rattle.walks.proofs.structure.first_not_one.Tie as tie

@@ -5,7 +5,7 @@ use native.Mathlib.Omega.{arith}
 use lib.ListN.{length-replicate}
 use Rattle.lambdamix.specs.Limits.{maxHeight}
 use Rattle.lambdamix.specs.Structure.{refusedAt}
-use Rattle.script.specs.Replies.{refusalOf}
+use Rattle.script.specs.Verdicts.{refusalOf}
 use Rattle.walks.specs.Walks.{innermost}
 use Rattle.walks.proofs.Scopes.{place-none, place-some}
 use Rattle.walks.proofs.structure.scope_refusal.Statement.{statement}

@@ -2,7 +2,7 @@
 use borrow.Author.Needs.{needs}
 use Rattle.lambdamix.specs.Limits.{maxHeight}
 use Rattle.lambdamix.specs.Structure.{refusedAt, orElse}
-use Rattle.script.specs.Replies.{refusalOf}
+use Rattle.script.specs.Verdicts.{refusalOf}
 use Rattle.walks.proofs.Heights.{tall-low, tall-high}
 use Rattle.walks.proofs.structure.tree_refusal.Statement.{statement}
 use Rattle.walks.proofs.structure.tree_refusal.Tie as tie

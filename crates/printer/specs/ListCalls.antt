@@ -1,17 +1,15 @@
 -- What the listing promises: a text that is written or refused. Assumes nothing.
 use Prim.Native.Nat.{ℕ}
-use mathlib.Core.Path.{_≡_}
 use mathlib.Core.List.{List}
-use mathlib.Core.Option.{Option, none}
-use lib.IntN.{ℤ}
+use mathlib.Core.Option.{Option}
 use Rattle.lambdamix.specs.Checker.{Refusal}
 use Rattle.lambdamix.specs.Structure.{orElse}
 use Rattle.lambdamix.specs.Listing as Text
 use Rattle.script.specs.declared.Counts.{Counts}
 use Rattle.script.specs.declared.Writing.{Writing}
-use Rattle.script.specs.Tables.{Tables, tablesOf, tablesScript, tablesRefusal, roomRefusal}
+use Rattle.script.specs.Tables.{Tables, tablesScript, tablesRefusal, roomRefusal}
 use Rattle.script.specs.Widths.{LentTables}
-use Rattle.script.specs.Replies.{WritesText, Fitted}
+use Rattle.script.specs.Replies.{WritesText}
 
 -- the listing of the script that tables hold
 unfoldable pub tablesText : Counts → Tables → List ℕ
@@ -26,11 +24,3 @@ listRefusal n x out = orElse (tablesRefusal (n .types) (n .inputs) (n .nodes) x)
 pub record ListsTables (n : Counts) (x : Tables) (before after : List ℕ) (r : Writing) : Type 0 where
   pub text : WritesText (listRefusal n x before) (tablesText n x) before after r
   pub lent : LentTables (n .types) (n .inputs) (n .nodes) x
-
--- the same of node columns alone, for any type and input columns with which refusals 1 to 8 tell nothing
-pub record Lists (n : Counts) (kinds a b c : List ℕ) (values : List ℤ) (before after : List ℕ) (r : Writing) : Type 0 where
-  pub lists :
-      (parameters results inputs : List ℕ) →
-      let x : Tables = tablesOf parameters results inputs kinds a b c values in
-      tablesRefusal (n .types) (n .inputs) (n .nodes) x ≡ none →
-      Fitted (tablesText n x) before after r

@@ -10,10 +10,7 @@ use Rattle.lambdamix.specs.Script.{Script}
 use Rattle.lambdamix.specs.Types.{Ty, typeOf, typeCount}
 use Rattle.lambdamix.specs.Checker.{Refusal, Checked, typed, faulty}
 use Rattle.script.specs.declared.Counts.{Counts}
-use Rattle.script.specs.Tables.{Tables, tablesScript, tablesRefusal}
-
-abbrev pub scriptOf : Counts → Tables → Script
-scriptOf n x = tablesScript (n .types) (n .inputs) (n .nodes) x
+use Rattle.script.specs.Tables.{Tables, tablesRefusal}
 
 -- none of refusals 1 to 8 holds
 abbrev pub Passes : Counts → Tables → Type 0
