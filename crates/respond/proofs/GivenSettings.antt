@@ -22,7 +22,8 @@ use Rattle.file.proofs.ByteLaws.{value-small}
 use Rattle.script.proofs.Rows.{everywhere}
 use Rattle.script.proofs.Numbered.{length-numbered, row-at}
 use Rattle.respond.specs.Response.{Reply, unmade, answerReply, unlessRefused, scriptReply, settingsReply}
-use Rattle.streams.specs.Input.{programSettings, wholeSettings, settingAt, settings}
+use Rattle.streams.specs.Input.{wholeSettings, settingAt, settings}
+use Rattle.streams.specs.Given.{programSettings}
 use Rattle.streams.specs.Given.{givenBy, givenCount, givenSettings}
 
 abbrev twelve : Option Refusal

@@ -20,7 +20,8 @@ use Rattle.script.specs.Refusals.{marked, headMarked, countsRight, fileRefusal,
 use Rattle.script.proofs.Sound.{in-limits}
 use Rattle.respond.specs.Response.{unmade, unlessRefused, inputReply, replyTo, replyText, response}
 use Rattle.streams.specs.Lines.{unmadeText}
-use Rattle.streams.specs.Input.{programSettings, headRight, scriptLengthBy, scriptLength, scriptPart, settingsPart}
+use Rattle.streams.specs.Input.{headRight, scriptLengthBy, scriptLength, scriptPart, settingsPart}
+use Rattle.streams.specs.Given.{programSettings}
 use Rattle.respond.proofs.Files.{few-inputs}
 use Rattle.respond.proofs.GivenSettings.{many-settings}
 

@@ -12,7 +12,7 @@ use Rattle.script.specs.Tables.{Tables, over}
 use Rattle.machine.specs.Room.{Stores, storesSuffice}
 use Rattle.specializer.specs.declared.Reply.{Reply}
 use Rattle.specializer.specs.Entry.{Makes}
-use Rattle.streams.specs.Input.{programSettings}
+use Rattle.streams.specs.Given.{programSettings}
 use Rattle.streams.specs.Given.{givenCount, givenSettings}
 use Rattle.streams.proofs.Splitting.{first-given}
 use Rattle.respond.specs.Stages.{MakesGiven}

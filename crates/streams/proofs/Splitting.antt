@@ -14,7 +14,8 @@ use Rattle.script.specs.File.{numbered, headTypes, headInputs, headNodes, fileL
 use Rattle.script.specs.Refusals.{headMarked, countsRight, isNone}
 use Rattle.script.specs.Tables.{over}
 use Rattle.script.proofs.Numbered.{length-numbered}
-use Rattle.streams.specs.Input.{programSettings, headRight, scriptLengthBy, scriptLength, wholeSettings, settingMarked, settingAt}
+use Rattle.streams.specs.Input.{headRight, scriptLengthBy, scriptLength, wholeSettings, settingMarked, settingAt}
+use Rattle.streams.specs.Given.{programSettings}
 use Rattle.streams.specs.Given.{givenBy, givenCount, givenSettings}
 
 -- where a script begins, and that it ends within its input

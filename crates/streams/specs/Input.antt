@@ -6,15 +6,10 @@ use mathlib.Core.List.{List}
 use lib.IntN.{ℤ}
 use lib.ListN.{length, take, drop}
 use lib.Dec.{leb, eqb}
-use Rattle.lambdamix.specs.Limits.{maxInputs}
 use Rattle.lambdamix.specs.Structure.{firstFailing}
 use Rattle.script.specs.Bytes.{word32, signed32}
 use Rattle.script.specs.File.{headTypes, headInputs, headNodes, fileLength, numbered}
 use Rattle.script.specs.Refusals.{countsRight, marked, headMarked, isNone}
-
--- room for one setting more than a script has inputs
-unfoldable pub programSettings : ℕ
-programSettings = maxInputs + 1
 
 unfoldable pub headRight : List ℕ → Bool
 headRight bs = leb 8 (length bs) && (headMarked bs 0 && countsRight (headTypes bs) (headInputs bs) (headNodes bs))

@@ -10,7 +10,8 @@ ghost use Rattle.lambdamix.specs.Structure.{firstFailing};
 ghost use Rattle.script.specs.File.{numbered};
 ghost use Rattle.script.specs.Refusals.{isNone};
 ghost use Rattle.script.specs.Tables.{over};
-ghost use Rattle.streams.specs.Input.{programSettings, settingMarked, settingAt};
+ghost use Rattle.streams.specs.Input.{settingMarked, settingAt};
+ghost use Rattle.streams.specs.Given.{programSettings};
 ghost use Rattle.streams.specs.Given.{givenCount, givenSettings};
 
 // Whether each of some records has its mark.

@@ -21,10 +21,12 @@ checked b s e h = rw e h
 
 returns : tie.Need-returns
 unfolding refusalOf
-returns c = λ ks xs ys zs vs ok p. bare-passes _ _ (search (c .if1 .taken))
+returns c = λ ks xs ys zs vs ok p. bare-passes _ _ (search (c .enum-told .given .1))
 
 returns-2 : tie.Need-returns-2
-returns-2 c = λ ks xs ys zs vs ok p. checked _ _ (search (c .before .before .if1 .left)) (c .annotation-refusal .ensures .reply ks xs ys zs vs ok p)
+returns-2 c =
+    λ ks xs ys zs vs ok p.
+    checked _ _ (search (c .before .before .enum-told2 .given .1)) (c .annotation-refusal .ensures .reply ks xs ys zs vs ok p)
 
 pub annotation-by-spec : {M : Type 1} → statement M
-annotation-by-spec = tie.close (tie.spec returns (λ c κs. search needs) returns-2)
+annotation-by-spec = tie.close (tie.spec (λ c. search needs) (λ c. search needs) (λ c κs. search needs) returns returns-2)

@@ -4,7 +4,8 @@ use mathlib.Core.Path.{sym, ap, _∙_}
 use native.Mathlib.Omega.{arith}
 use Rattle.script.specs.Refusals.{isNone}
 use Rattle.script.proofs.Searching.{Searching, search-begins, search-goes-on, search-finds, search-ends}
-use Rattle.streams.specs.Input.{programSettings, settingMarked}
+use Rattle.streams.specs.Input.{settingMarked}
+use Rattle.streams.specs.Given.{programSettings}
 use Rattle.lambdamix.specs.Limits.{maxInputs}
 use Rattle.streams.proofs.settings.all_marked.Statement.{statement}
 use Rattle.streams.proofs.settings.all_marked.Tie as tie

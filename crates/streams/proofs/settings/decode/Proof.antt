@@ -5,7 +5,8 @@ use native.Mathlib.Omega.{arith}
 use mir.Syntax.{w32}
 use mir.Facts.{toZ-ofZ}
 use Rattle.reading.proofs.Filling.{Filling, fill-begins, fill-goes-on, fill-ends, fill-length}
-use Rattle.streams.specs.Input.{programSettings, settingAt}
+use Rattle.streams.specs.Input.{settingAt}
+use Rattle.streams.specs.Given.{programSettings}
 use Rattle.lambdamix.specs.Limits.{maxInputs}
 use Rattle.streams.proofs.settings.decode.Statement.{statement}
 use Rattle.streams.proofs.settings.decode.Tie as tie

@@ -6,7 +6,7 @@ use lib.ListN.{length}
 use borrow.Author.Tests.{lt-ltb, le-ltb, eq-eqb, ne-eqb}
 use Rattle.streams.specs.Given.{givenBy}
 use Rattle.lambdamix.specs.Limits.{maxInputs}
-use Rattle.streams.specs.Input.{programSettings}
+use Rattle.streams.specs.Given.{programSettings}
 use Rattle.streams.proofs.Splitting.{given-by}
 use borrow.Author.Needs.{needs}
 use Rattle.streams.proofs.settings.given_count.Statement.{statement}

@@ -1,7 +1,7 @@
 -- `streams::settings::settings_given` meets its contract: what is decoded is what is given, where the store has the places. Assumes nothing.
 use native.Mathlib.Omega.{arith}
 use Rattle.lambdamix.specs.Limits.{maxInputs}
-use Rattle.streams.specs.Input.{programSettings}
+use Rattle.streams.specs.Given.{programSettings}
 use Rattle.streams.proofs.Splitting.{given-most, given-none, given-decoded}
 use borrow.Author.Needs.{needs}
 use Rattle.streams.proofs.settings.settings_given.Statement.{statement}
