@@ -95,14 +95,22 @@ module _ {A B : Type 0} {e f : ℕ} {x : Checked A} {y : Checked B} (p : Told e 
   unfolding lowest both
   first-fault h k =
       elim (q .no-fault k) [
-        | right b ↦ rw (le-leb (e / faultLimit) (f / faultLimit) (omega arith)) (record { fault = λ _. rw (p .fault h); no-fault = λ m. let z : ⊥ = omega arith in absurd z })
+        | right b ↦ rw (le-leb (e / faultLimit) (f / faultLimit) (omega arith)) (record {
+          fault = λ _. rw (p .fault h);
+          no-fault = λ m. let
+              z : ⊥ = omega arith in absurd z;
+        })
       ]
 
   second-fault : typeBase ≤ e → f < typeBase → Told (lowest e f) (both x y)
   unfolding lowest both
   second-fault h k =
       elim (p .no-fault h) [
-        | right a ↦ rw (lt-leb (e / faultLimit) (f / faultLimit) (omega arith)) (record { fault = λ _. rw (q .fault k); no-fault = λ m. let z : ⊥ = omega arith in absurd z })
+        | right a ↦ rw (lt-leb (e / faultLimit) (f / faultLimit) (omega arith)) (record {
+          fault = λ _. rw (q .fault k);
+          no-fault = λ m. let
+              z : ⊥ = omega arith in absurd z;
+        })
       ]
 
   no-faults : typeBase ≤ e → typeBase ≤ f → Told (lowest e f) (both x y)
@@ -120,7 +128,8 @@ module _ {A B : Type 0} {e f : ℕ} {x : Checked A} {y : Checked B} (p : Told e 
   told-both =
       ⊎-elim
       (λ a. ⊎-elim (λ b. two-faults (ltb-true _ _ a) (ltb-true _ _ b)) (λ b. first-fault (ltb-true _ _ a) (ltb-false _ _ b)) (holds-or-fails (ltb f typeBase)))
-      (λ a. ⊎-elim (λ b. second-fault (ltb-false _ _ a) (ltb-true _ _ b)) (λ b. no-faults (ltb-false _ _ a) (ltb-false _ _ b)) (holds-or-fails (ltb f typeBase)))
+      (λ a. ⊎-elim (λ b. second-fault (ltb-false _ _ a) (ltb-true _ _ b)) (λ b. no-faults (ltb-false _ _ a) (ltb-false _ _ b))
+      (holds-or-fails (ltb f typeBase)))
       (holds-or-fails (ltb e typeBase))
 
 -- where the lowest of two answers is no fault, none is
@@ -128,7 +137,8 @@ pub both-types : (e f : ℕ) → typeBase ≤ lowest e f → (typeBase ≤ e) ×
 unfolding lowest
 both-types e f h =
     ⊎-elim (λ b. let w : typeBase ≤ e = rw b at h in let v = leb-true (e / faultLimit) (f / faultLimit) b in (w, omega arith))
-    (λ b. let w : typeBase ≤ f = rw b at h in let v = leb-false (e / faultLimit) (f / faultLimit) b in (omega arith, w)) (holds-or-fails (leb (e / faultLimit) (f / faultLimit)))
+    (λ b. let w : typeBase ≤ f = rw b at h in let v = leb-false (e / faultLimit) (f / faultLimit) b in (omega arith, w)) (holds-or-fails
+    (leb (e / faultLimit) (f / faultLimit)))
 
 -- a fault goes before the node's own rule
 pub told-rule :

@@ -20,7 +20,8 @@ use Rattle.walks.specs.Walks.{keptIf, Kept, rowChildren}
 use Rattle.walks.proofs.TreeForms.{All, kept-fields}
 use Rattle.walks.proofs.Scopes.{kept-all}
 use Rattle.annotation.specs.AnswerWords.{pick, typeAnswer}
-use Rattle.annotation.specs.Walks.{Lent, Pair, bound, Pushed, Binds, Entered, entered, passed-over, parameterBy, Answers, ChildAnswers, FieldAnswers, typed-child, not-visited, RowOf, Stand, none-left, child-then, other-then, places, Ruled}
+use Rattle.annotation.specs.Walks.{Lent, Pair, bound, Pushed, Binds, Entered, entered, passed-over, parameterBy, Answers, ChildAnswers, FieldAnswers}
+use Rattle.annotation.specs.Walks.{typed-child, not-visited, RowOf, Stand, none-left, child-then, other-then, places, Ruled}
 use Rattle.annotation.proofs.Trees.{Below, wordNode, kind-below, word-drawn, row-use}
 use Rattle.annotation.proofs.Contexts.{binds-kept, kept-then, binds-more}
 use Rattle.annotation.proofs.Rules.{constant-ruled, variable-ruled}

@@ -52,10 +52,14 @@ module _ (n : Counts) (x : Tables) (ok : Passes n x) where
   tables-lent p t =
       record {
         passes = neither _ _ ok .1;
-        nodes = record { each = λ j h. let l : j < n .nodes = omega (arith, node-count (n .types) (n .inputs) (n .nodes) x) in rw (node-row (n .types) (n .inputs) (n .nodes) x j l) (p .each j l) };
+        nodes = record {
+          each = λ j h. let l : j < n .nodes = omega (arith, node-count (n .types) (n .inputs) (n .nodes) x) in rw (node-row
+              (n .types) (n .inputs) (n .nodes) x j l) (p .each j l);
+        };
         types =
             record {
-              each = λ j h. let l : j < n .types = omega (arith, type-count (n .types) (n .inputs) (n .nodes) x) in rw (type-row (n .types) (n .inputs) (n .nodes) x j l) (t .each j l);
+              each = λ j h. let l : j < n .types = omega (arith, type-count (n .types) (n .inputs) (n .nodes) x) in rw (type-row (n .types)
+                  (n .inputs) (n .nodes) x j l) (t .each j l);
               past = λ j h l. t .past j (omega (arith, type-count (n .types) (n .inputs) (n .nodes) x)) l;
               room = t .room;
             };
@@ -66,7 +70,11 @@ module _ (n : Counts) (x : Tables) (ok : Passes n x) where
   inputs-lent {before} b =
       rw (input-count (n .types) (n .inputs) (n .nodes) x) at
       (inputs-bound (scriptOf n x) (passes-sound n x ok) before
-      (λ j h. let l : j < n .inputs = omega (arith, input-count (n .types) (n .inputs) (n .nodes) x) in rw (input-count (n .types) (n .inputs) (n .nodes) x, input-row (n .types) (n .inputs) (n .nodes) x j l) (b .each j l)))
+      (λ j h. let l : j < n .inputs = omega (arith, input-count (n .types) (n .inputs) (n .nodes) x) in rw (
+        input-count (n .types) (n
+            .inputs) (n .nodes) x,
+        input-row (n .types) (n .inputs) (n .nodes) x j l,
+      ) (b .each j l)))
 
 -- Theorem: the root's answer gives refusals 9, 10 and 11.
 pub at-root :

@@ -14,13 +14,16 @@ use Rattle.lambdamix.specs.Script.{Script, Node, Row, rows, blankRow, nodeCount
 use Rattle.lambdamix.specs.Term.{Term, Terms, arity, childAt, build}
 use Rattle.lambdamix.specs.Types.{Ty, D, typeOf, typeCount}
 use Rattle.lambdamix.specs.Typing.{Context, bind}
-use Rattle.lambdamix.specs.Checker.{typed, both, gather, rule, own, provided, applyRule, fixRule, abstrBy, abstrRule, abstrDynRule, allDynamic, dynRule, check, checkAll}
+use Rattle.lambdamix.specs.Checker.{typed, both, gather, rule, own, provided, applyRule, fixRule, abstrBy, abstrRule, abstrDynRule, allDynamic, dynRule}
+use Rattle.lambdamix.specs.Checker.{check, checkAll}
 use Rattle.lambdamix.proofs.Tests.{holds-or-fails}
-use Rattle.annotation.specs.AnswerWords.{limit16, pairWord, typeBase, typeAnswer, typeIn, Stands, givenBy, parameterOf, resultOf, applyAnswer, fixAnswer, lowest}
+use Rattle.annotation.specs.AnswerWords.{limit16, pairWord, typeBase, typeAnswer, typeIn, Stands, givenBy, parameterOf, resultOf, applyAnswer}
+use Rattle.annotation.specs.AnswerWords.{fixAnswer, lowest}
 use Rattle.walks.proofs.TreeForms.{All, at-all}
 use Rattle.annotation.specs.Walks.{Lent, Listing, listed-at, not-listed, bound, Stand, none-left, child-then, other-then, places, inside, Ruled}
 use Rattle.script.proofs.Sound.{Sound, sound}
-use Rattle.annotation.proofs.TypeNumbers.{pair, parts, type-zero, type-one, same-dynamic, function-type, listed-pair, unlisted-pair, apply-numbers, fix-numbers, lift-numbers, if-numbers, op-numbers, dynamic-function}
+use Rattle.annotation.proofs.TypeNumbers.{pair, parts, type-zero, type-one, same-dynamic, function-type, listed-pair, unlisted-pair, apply-numbers}
+use Rattle.annotation.proofs.TypeNumbers.{fix-numbers, lift-numbers, if-numbers, op-numbers, dynamic-function}
 use Rattle.annotation.proofs.Contexts.{type-stands, fault-stands, given-stands, bound-stands}
 use Rattle.annotation.proofs.Faults.{Told, told, told-alone, told-gather, told-first, told-second, told-both, both-types, told-rule, typed-answer}
 

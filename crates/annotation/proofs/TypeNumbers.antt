@@ -156,7 +156,8 @@ module _ (s : Script) (ok : Sound s) where
       listed s (typeOf s p ⇒ typeOf s r) ≡ false
   unfolding listed typeCount sameType
   unlisted-pair p r hp hr other =
-      same-tests _ _ (λ e. let (k, h, q) = which-type (typeOf s) (2 + length (s .types)) (typeOf s p ⇒ typeOf s r) e in refuted (view k h) q) (λ e. absurd (false≢true e))
+      same-tests _ _ (λ e. let (k, h, q) = which-type (typeOf s) (2 + length (s .types)) (typeOf s p ⇒ typeOf s r) e in refuted (view k h)
+      q) (λ e. absurd (false≢true e))
     where
       refuted : {k : ℕ} {t : Ty} → View s k t → sameType t (typeOf s p ⇒ typeOf s r) ≡ true → false ≡ true
       refuted (static e) q = q

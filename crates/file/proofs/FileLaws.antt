@@ -14,8 +14,10 @@ use Rattle.lambdamix.specs.Script.{Script, nodeAt}
 use Rattle.lambdamix.specs.Text.{ascii}
 use Rattle.lambdamix.specs.Structure.{orElse, structureRefusal, refusedUnless}
 use Rattle.script.specs.Bytes.{bytes16}
-use Rattle.script.specs.File.{headBytes, typeBytes, inputBytes, nodeBytes, records, fileBytes, typeOffset, inputOffset, nodeOffset, fileLength, headTypes, headInputs, headNodes, scriptIn}
-use Rattle.script.specs.Refusals.{refusedRecord, countsRight, contentRefusal, scriptRefusal, headMarked, markRefusal, earlier, bodyRefusal, fileRefusal, headRefusal}
+use Rattle.script.specs.File.{headBytes, typeBytes, inputBytes, nodeBytes, records, fileBytes, typeOffset, inputOffset, nodeOffset, fileLength, headTypes}
+use Rattle.script.specs.File.{headInputs, headNodes, scriptIn}
+use Rattle.script.specs.Refusals.{refusedRecord, countsRight, contentRefusal, scriptRefusal, headMarked, markRefusal, earlier, bodyRefusal, fileRefusal}
+use Rattle.script.specs.Refusals.{headRefusal}
 use Rattle.file.specs.Encodable.{AllBytes, Encodable}
 use Rattle.file.proofs.ByteLaws.{Stands, stands-left, stands-right, stands-both, stands-self, stands-whole, word16-at, stands16, word16-small}
 use Rattle.script.proofs.RefusalLaws.{neither, no-earlier, not-refused, pass-over, no-record, or-none}
@@ -99,10 +101,12 @@ module _ (s : Script) (fit : Encodable s) where
       types = rw types-count (records-read typeLayout 8 (s .types) (stands-left (records typeBytes (s .types)) _ from-types) (fit .types))
 
       inputs : readFrom inputLayout (fileBytes s) (8 + 6 * headTypes (fileBytes s)) (headInputs (fileBytes s)) ≡ s .inputs
-      inputs = rw (types-count, inputs-count) (records-read inputLayout (8 + 6 * length (s .types)) (s .inputs) (stands-left (records inputBytes (s .inputs)) _ from-inputs) (fit .inputs))
+      inputs = rw (types-count, inputs-count) (records-read inputLayout (8 + 6 * length (s .types)) (s .inputs) (stands-left (records
+          inputBytes (s .inputs)) _ from-inputs) (fit .inputs))
 
       nodes : readFrom nodeLayout (fileBytes s) (8 + 6 * headTypes (fileBytes s) + 4 * headInputs (fileBytes s)) (headNodes (fileBytes s)) ≡ s .nodes
-      nodes = rw (types-count, inputs-count, nodes-count) (records-read nodeLayout (8 + 6 * length (s .types) + 4 * length (s .inputs)) (s .nodes) from-nodes (fit .nodes))
+      nodes = rw (types-count, inputs-count, nodes-count) (records-read nodeLayout (8 + 6 * length (s .types) + 4 * length (s .inputs)) (s
+          .nodes) from-nodes (fit .nodes))
 
   -- the marks of the records
   marks-right : markRefusal (fileBytes s) (length (s .types)) (length (s .inputs)) (length (s .nodes)) ≡ none

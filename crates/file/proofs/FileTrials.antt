@@ -14,12 +14,17 @@ use Rattle.lambdamix.proofs.Computing.{computing}
 use Rattle.lambdamix.proofs.Trials.{each-row}
 use Rattle.lambdamix.specs.Structure.{refusedUnless}
 use Rattle.script.specs.Bytes.{byteAt, word16, word32, signedBy, signed32, bits32, bytes16, bytes32}
-use Rattle.script.specs.File.{headBytes, typeBytes, inputBytes, nodeBytes, records, fileBytes, typeOffset, inputOffset, nodeOffset, fileLength, headTypes, headInputs, headNodes, numbered, typeFrom, inputFrom, nodeFrom, scriptIn}
-use Rattle.script.specs.Refusals.{refusedRecord, countsRight, samePair, otherPair, isNone, typeFits, inputFits, fieldRight, fieldsRight, nodeFits, contentOf, contentRefusal, scriptRefusal, marked, markRefusal, earlierBy, earlier, bodyRefusal, headRefusal, fileRefusal}
+use Rattle.script.specs.File.{headBytes, typeBytes, inputBytes, nodeBytes, records, fileBytes, typeOffset, inputOffset, nodeOffset, fileLength, headTypes}
+use Rattle.script.specs.File.{headInputs, headNodes, numbered, typeFrom, inputFrom, nodeFrom, scriptIn}
+use Rattle.script.specs.Refusals.{refusedRecord, countsRight, samePair, otherPair, isNone, typeFits, inputFits, fieldRight, fieldsRight, nodeFits, contentOf}
+use Rattle.script.specs.Refusals.{contentRefusal, scriptRefusal, marked, markRefusal, earlierBy, earlier, bodyRefusal, headRefusal, fileRefusal}
 
 -- one name that opens the definitions of files
 unfoldable pub reading : Unit {0}
-unfolding byteAt word16 word32 signedBy signed32 bits32 bytes16 bytes32 headBytes typeBytes inputBytes nodeBytes records fileBytes typeOffset inputOffset nodeOffset fileLength headTypes headInputs headNodes numbered typeFrom inputFrom nodeFrom scriptIn refusedUnless refusedRecord countsRight samePair otherPair isNone typeFits inputFits fieldRight fieldsRight nodeFits contentOf contentRefusal scriptRefusal marked markRefusal earlierBy earlier bodyRefusal headRefusal fileRefusal
+unfolding byteAt word16 word32 signedBy signed32 bits32 bytes16 bytes32 headBytes typeBytes inputBytes nodeBytes records fileBytes
+    typeOffset inputOffset nodeOffset fileLength headTypes headInputs headNodes numbered typeFrom inputFrom nodeFrom scriptIn refusedUnless
+    refusedRecord countsRight samePair otherPair isNone typeFits inputFits fieldRight fieldsRight nodeFits contentOf contentRefusal
+    scriptRefusal marked markRefusal earlierBy earlier bodyRefusal headRefusal fileRefusal
 reading = tt
 
 -- "Input A (94 bytes)"

@@ -17,7 +17,8 @@ use Rattle.script.specs.File.{typeBytes, typeFrom, inputBytes, inputFrom, nodeB
 use Rattle.script.specs.Refusals.{marked}
 use Rattle.script.specs.Widths.{EncodableType, EncodableNode}
 use Rattle.file.specs.Encodable.{AllBytes}
-use Rattle.file.proofs.ByteLaws.{Stands, stands-left, stands-right, stands-both, stands-nil, stands-cons, word16-at, stands16, word16-small, value-at, value-stands, value-small}
+use Rattle.file.proofs.ByteLaws.{Stands, stands-left, stands-right, stands-both, stands-nil, stands-cons, word16-at, stands16, word16-small, value-at}
+use Rattle.file.proofs.ByteLaws.{value-stands, value-small}
 use Rattle.file.proofs.RecordLaws.{Layout}
 
 -- ---- the mark

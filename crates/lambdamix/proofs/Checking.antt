@@ -11,9 +11,13 @@ use Rattle.lambdamix.specs.declared.Operator.{Operator}
 use Rattle.lambdamix.specs.Script.{Script, root}
 use Rattle.lambdamix.specs.Term.{Term, Terms, nilT, consT, arity, const, var, lifted, lam, app, fixed, cond, op, dlam, dyn, tree, nodeOf}
 use Rattle.lambdamix.specs.Types.{Ty, S, D, _⇒_, sameType, typeOf, listed}
-use Rattle.lambdamix.specs.Typing.{Context, bind, typeAt, inputContext, _∣_⊢_∶_, Const, Var, Lift, Abstr, Apply, Fix, If, Op, Abstr-dyn, Dyn, AllDynamic, nil-dyn, cons-dyn}
-use Rattle.lambdamix.specs.Checker.{Refusal, Checked, typed, faulty, both, Verdict, gives, fails, unlisted, own, rule, provided, varRule, liftRule, abstrBy, abstrRule, applyRule, fixRule, ifRule, opRule, abstrDynRule, allDynamic, dynRule, gather, check, checkAll, rootRule, checkedRoot, annotationRefusal}
-use Rattle.lambdamix.specs.Fault.{parts, partsAmong, HasType, has-type, AllTyped, all-typed, Unlisted, not-listed, AtFault, own-9, own-10, below, FaultAmong}
+use Rattle.lambdamix.specs.Typing.{Context, bind, typeAt, inputContext, _∣_⊢_∶_, Const, Var, Lift, Abstr, Apply, Fix, If, Op, Abstr-dyn, Dyn}
+use Rattle.lambdamix.specs.Typing.{AllDynamic, nil-dyn, cons-dyn}
+use Rattle.lambdamix.specs.Checker.{Refusal, Checked, typed, faulty, both, Verdict, gives, fails, unlisted, own, rule, provided, varRule, liftRule}
+use Rattle.lambdamix.specs.Checker.{abstrBy, abstrRule, applyRule, fixRule, ifRule, opRule, abstrDynRule, allDynamic, dynRule, gather, check, checkAll}
+use Rattle.lambdamix.specs.Checker.{rootRule, checkedRoot, annotationRefusal}
+use Rattle.lambdamix.specs.Fault.{parts, partsAmong, HasType, has-type, AllTyped, all-typed, Unlisted, not-listed, AtFault, own-9, own-10, below}
+use Rattle.lambdamix.specs.Fault.{FaultAmong}
 use Rattle.lambdamix.proofs.Answers.{well, ill, given, OnTerm, OnParts, none-among, both-right, one-right, gather-right}
 use Rattle.lambdamix.proofs.Tests.{T-true, true-T, and-intro, and-both}
 
@@ -40,7 +44,8 @@ sameType-sound (t ⇒ u) (v ⇒ w) e =
 
 -- Completeness: the checker gives every type that can be derived.
 mutual
-  unfolding check checkAll rule own both gather provided varRule liftRule abstrBy abstrRule applyRule fixRule ifRule opRule abstrDynRule dynRule allDynamic sameType
+  unfolding check checkAll rule own both gather provided varRule liftRule abstrBy abstrRule applyRule fixRule ifRule opRule abstrDynRule
+      dynRule allDynamic sameType
 
   pub complete : {s : Script} {Γ : Context} {e : Term} {t : Ty} → s ∣ Γ ⊢ e ∶ t → check s Γ e ≡ typed t
   complete Const = refl

@@ -13,8 +13,10 @@ use borrow.Author.Tests.{lt-ltb, eqb-true}
 use Rattle.lambdamix.specs.Script.{Script, inputCount, root}
 use Rattle.lambdamix.specs.Term.{Term, Terms, tree}
 use Rattle.lambdamix.specs.Types.{Ty}
-use Rattle.lambdamix.specs.Typing.{Context, bind, typeAtBy, typeAt, inputType, contextFrom, inputContext, _∣_⊢_∶_, Const, Var, Lift, Abstr, Apply, Fix, If, Op, Abstr-dyn, Dyn, AllDynamic, nil-dyn, cons-dyn}
-use Rattle.lambdamix.specs.Structure.{firstBy, firstFailing, oneIf, occurrences, refusedAt, lowest, member, unlessBound, unbound, unboundAll, scopeRefusal}
+use Rattle.lambdamix.specs.Typing.{Context, bind, typeAtBy, typeAt, inputType, contextFrom, inputContext, _∣_⊢_∶_, Const, Var, Lift, Abstr, Apply, Fix}
+use Rattle.lambdamix.specs.Typing.{If, Op, Abstr-dyn, Dyn, AllDynamic, nil-dyn, cons-dyn}
+use Rattle.lambdamix.specs.Structure.{firstBy, firstFailing, oneIf, occurrences, refusedAt, lowest, member, unlessBound, unbound, unboundAll}
+use Rattle.lambdamix.specs.Structure.{scopeRefusal}
 use Rattle.lambdamix.proofs.Tests.{or-left, or-right}
 
 pub none-fails : (p : ℕ → Bool) (i n : ℕ) → ((j : ℕ) → i ≤ j → j < i + n → p j ≡ true) → firstFailing p i n ≡ none

@@ -15,13 +15,15 @@ use Rattle.lambdamix.specs.Limits.{maxNodes, maxHeight}
 use Rattle.lambdamix.specs.Script.{Script, inputCount, root}
 use Rattle.lambdamix.specs.Term.{Former, arity, tree}
 use Rattle.lambdamix.specs.Types.{D}
-use Rattle.lambdamix.specs.Typing.{Context, bind, typeAtBy, typeAt, inputTypeBy, inputType, contextFrom, inputContext, _∣_⊢_∶_, Const, Var, Lift, Abstr-dyn, Dyn, AllDynamic, nil-dyn, cons-dyn}
+use Rattle.lambdamix.specs.Typing.{Context, bind, typeAtBy, typeAt, inputTypeBy, inputType, contextFrom, inputContext, _∣_⊢_∶_, Const, Var, Lift}
+use Rattle.lambdamix.specs.Typing.{Abstr-dyn, Dyn, AllDynamic, nil-dyn, cons-dyn}
 use Rattle.lambdamix.specs.Code.{Code, Codes, lit, ref, fn, form, nilC, consC, size, codeHeight, fits, top, written}
 use Rattle.lambdamix.specs.Structure.{orElse, member, structureRefusal}
 use Rattle.lambdamix.specs.Demand.{DynamicInput}
 use Rattle.lambdamix.proofs.Tests.{and-both}
 use Rattle.lambdamix.proofs.Structure.{typed-scope}
-use Rattle.lambdamix.proofs.WrittenTree.{writtenTerm, writtenTerms, WellFormed, formed-lit, formed-ref, formed-fn, formed-form, AllWellFormed, formed-nil, formed-cons, written-tree}
+use Rattle.lambdamix.proofs.WrittenTree.{writtenTerm, writtenTerms, WellFormed, formed-lit, formed-ref, formed-fn, formed-form, AllWellFormed}
+use Rattle.lambdamix.proofs.WrittenTree.{formed-nil, formed-cons, written-tree}
 use Rattle.lambdamix.proofs.WrittenUses.{written-uses}
 use Rattle.lambdamix.proofs.WrittenHeight.{written-height}
 

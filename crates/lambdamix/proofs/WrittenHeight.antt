@@ -15,7 +15,8 @@ use Rattle.lambdamix.specs.Code.{Code, Codes, lit, ref, fn, form, nilC, 
 use Rattle.lambdamix.specs.Structure.{refusedAt, lowEnough, heightRefusal}
 use Rattle.lambdamix.proofs.Tests.{holds-or-fails}
 use Rattle.lambdamix.proofs.Structure.{none-fails}
-use Rattle.lambdamix.proofs.WrittenTree.{writtenTerm, writtenTerms, WellFormed, formed-lit, formed-ref, formed-fn, formed-form, AllWellFormed, formed-nil, formed-cons, top-last, Holds, holds-left, holds-right, tree-at, tree-of, written-holds}
+use Rattle.lambdamix.proofs.WrittenTree.{writtenTerm, writtenTerms, WellFormed, formed-lit, formed-ref, formed-fn, formed-form, AllWellFormed}
+use Rattle.lambdamix.proofs.WrittenTree.{formed-nil, formed-cons, top-last, Holds, holds-left, holds-right, tree-at, tree-of, written-holds}
 
 -- A code's tree is as high as the code.
 mutual

@@ -11,8 +11,10 @@ use Rattle.lambdamix.specs.declared.Operator.{Operator}
 use Rattle.lambdamix.specs.declared.Operator.the-variants.{Add, Subtract, Multiply, Divide, Equal, Less}
 use Rattle.lambdamix.specs.Falling.{below}
 use Rattle.lambdamix.specs.Script.{Script, Node, blankNode, nodeAt, nodeCount, root, rows, rowOf, fields, ifChild, childFields, children}
-use Rattle.lambdamix.specs.Term.{Term, Terms, nilT, consT, Former, applying, fixing, choosing, operating, arity, const, var, lifted, dlam, dyn, blankTerm, childAt, operatorOf, build, terms, treeStep, tree}
-use Rattle.lambdamix.specs.Code.{Code, Codes, lit, ref, fn, form, nilC, consC, size, sizes, top, after, tops, operatorNumber, formNode, nodesFrom, allNodesFrom, written}
+use Rattle.lambdamix.specs.Term.{Term, Terms, nilT, consT, Former, applying, fixing, choosing, operating, arity, const, var, lifted, dlam, dyn}
+use Rattle.lambdamix.specs.Term.{blankTerm, childAt, operatorOf, build, terms, treeStep, tree}
+use Rattle.lambdamix.specs.Code.{Code, Codes, lit, ref, fn, form, nilC, consC, size, sizes, top, after, tops, operatorNumber, formNode, nodesFrom}
+use Rattle.lambdamix.specs.Code.{allNodesFrom, written}
 use Rattle.lambdamix.proofs.Falling.{falling-step, below-at}
 
 -- The tree that a piece of code stands for where its first node is k.

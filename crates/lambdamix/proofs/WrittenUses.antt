@@ -11,7 +11,8 @@ use Rattle.lambdamix.specs.Script.{Script, Node, root, rows, rowOf, fiel
 use Rattle.lambdamix.specs.Code.{Code, Codes, top, after, tops, nodesFrom, allNodesFrom, written}
 use Rattle.lambdamix.specs.Structure.{refusedAt, oneIf, occurrences, uses, usedOnce, useRefusal}
 use Rattle.lambdamix.proofs.Structure.{none-fails}
-use Rattle.lambdamix.proofs.WrittenTree.{WellFormed, formed-lit, formed-ref, formed-fn, formed-form, AllWellFormed, formed-nil, formed-cons, form-children, written-root}
+use Rattle.lambdamix.proofs.WrittenTree.{WellFormed, formed-lit, formed-ref, formed-fn, formed-form, AllWellFormed, formed-nil, formed-cons}
+use Rattle.lambdamix.proofs.WrittenTree.{form-children, written-root}
 
 uses-append : (p q : List Node) (i : ℕ) → uses (p ++ q) i ≡ uses p i + uses q i
 unfolding uses

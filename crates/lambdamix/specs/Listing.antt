@@ -7,7 +7,8 @@ use lib.Dec.{ltb}
 use Rattle.lambdamix.specs.declared.Operator.{Operator}
 use Rattle.lambdamix.specs.declared.Operator.the-variants.{Add, Subtract, Multiply, Divide, Equal, Less}
 use Rattle.lambdamix.specs.Script.{Script, inputCount, root}
-use Rattle.lambdamix.specs.Term.{Term, Terms, nilT, consT, Former, applying, fixing, choosing, operating, const, var, lifted, lam, app, fixed, cond, op, dlam, dyn, tree}
+use Rattle.lambdamix.specs.Term.{Term, Terms, nilT, consT, Former, applying, fixing, choosing, operating, const, var, lifted, lam, app, fixed, cond, op}
+use Rattle.lambdamix.specs.Term.{dlam, dyn, tree}
 use Rattle.lambdamix.specs.Text.{ascii, digits, decimal}
 
 unfoldable pub nameBy : Bool → ℕ → List ℕ

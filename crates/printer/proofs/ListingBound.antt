@@ -159,7 +159,12 @@ module _ (s : Script) (fits : Encodable s) (h : Sound s) where
   node-bytes i l =
       let self : ℕ → List ℕ = below i (digits 0) text in
       rw (node-step (inputCount s) (nodeAt s) i)
-      (omega (arith, own-bytes (inputCount s) self (nodeAt s i) (fits .nodes i l .a) (fits .nodes i l .value), total-same (λ m. length (self m)) (λ m. length (text m)) _ (λ j k. ap length (below-at i (digits 0) text j (under s h i j l k)))))
+      (omega (
+        arith,
+        own-bytes (inputCount s) self (nodeAt s i) (fits .nodes i l .a) (fits .nodes i l .value),
+        total-same (λ m. length
+            (self m)) (λ m. length (text m)) _ (λ j k. ap length (below-at i (digits 0) text j (under s h i j l k))),
+      ))
 
 -- At most 13 bytes for each node, and the newline.
 pub listing-bytes : (s : Script) → Encodable s → scriptRefusal s ≡ none → length (listing s) ≤ 13 * nodeCount s + 1

@@ -53,7 +53,8 @@ module _ (n : ℕ) (self : ℕ → List ℕ) (a b c : ℕ) (z : ℤ) where
   pieces :
       (k : ℕ) →
       length (nodeText n self (node k))
-      ≡ length (framed (wordOf k) 40) + length (wordText (wordOf k) c z) + length (part k 0 a) + length (part k 1 b) + length (part k 2 c) + length (framed (wordOf k) 41)
+      ≡ length (framed (wordOf k) 40) + length (wordText (wordOf k) c z) + length (part k 0 a) + length (part k 1 b) + length (part k 2 c)
+      + length (framed (wordOf k) 41)
   unfolding nodeText
   pieces k =
       lengths (framed (wordOf k) 40) (wordText (wordOf k) c z) (part k 0 a) (part k 1 b) (part k 2 c) (framed (wordOf k) 41)
@@ -76,7 +77,11 @@ module _ (n : ℕ) (self : ℕ → List ℕ) (a b c : ℕ) (z : ℤ) where
   row-bytes (suc (suc (suc (suc (suc (suc (suc (suc (suc (suc zero)))))))))) x y o = omega (arith, pieces 10)
   row-bytes (suc (suc (suc (suc (suc (suc (suc (suc (suc (suc (suc zero))))))))))) x y o = omega (arith, pieces 11)
   row-bytes (suc (suc (suc (suc (suc (suc (suc (suc (suc (suc (suc (suc zero)))))))))))) x y o = omega (arith, pieces 12)
-  row-bytes (suc (suc (suc (suc (suc (suc (suc (suc (suc (suc (suc (suc (suc k))))))))))))) x y o = omega (arith, pieces (suc (suc (suc (suc (suc (suc (suc (suc (suc (suc (suc (suc (suc k))))))))))))))
+  row-bytes (suc (suc (suc (suc (suc (suc (suc (suc (suc (suc (suc (suc (suc k))))))))))))) x y o = omega (
+    arith,
+    pieces (suc (suc (suc
+        (suc (suc (suc (suc (suc (suc (suc (suc (suc (suc k))))))))))))),
+  )
 
 -- The bytes of a node's text, given those of its children's.
 pub own-bytes :

@@ -69,7 +69,8 @@ module _ {text x y : List ℕ} {k : ℕ} (short : length x < most) (same : y ≡
 
 -- ---- the entry: x is the output before, y what the first walk gives back of the part of length 0 that it is lent
 
-module _ {n : Counts} {kinds a b c : List ℕ} {values : List ℤ} {x y w : List ℕ} {k : ℕ} (short : length x < most) (nothing : length y ≡ 0) (first : Placed (wholeText (n .inputs) (n .nodes) kinds a b c values) 0 w y k) where
+module _ {n : Counts} {kinds a b c : List ℕ} {values : List ℤ} {x y w : List ℕ} {k : ℕ} (short : length x < most) (nothing : length y ≡ 0)
+    (first : Placed (wholeText (n .inputs) (n .nodes) kinds a b c values) 0 w y k) where
   pub lists-whole :
       {z : List ℕ} {e : ℕ} → k ≤ length (y ++ x) →
       Placed (wholeText (n .inputs) (n .nodes) kinds a b c values) 0 (y ++ x) z e →

@@ -36,7 +36,8 @@ row-text :
     (n : ℕ) (t : ℕ → Term) (i k a b c : ℕ) (z : ℤ) →
     let nd : Node = record { kind = k; a = a; b = b; c = c; value = z } in
     termText n (build (rowOf nd .step) i nd (terms t (children nd))) ≡ nodeText n (λ m. termText n (t m)) nd
-unfolding termText build rowOf rows terms children childFields ifChild fields childAt nodeText wordOf words useOf usesTable wordText fieldText group spaced ascii formerText
+unfolding termText build rowOf rows terms children childFields ifChild fields childAt nodeText wordOf words useOf usesTable wordText
+    fieldText group spaced ascii formerText
 row-text n t i zero a b c z = simp append-nil
 row-text n t i (suc zero) a b c z = simp append-nil
 row-text n t i (suc (suc zero)) a b c z = simp append-nil

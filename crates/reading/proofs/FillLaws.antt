@@ -151,7 +151,8 @@ module _ (bs : List ℕ) (n : Counts) (x : Tables) where
       (column-filled (λ (y : Node). y .a) nodes _ _ (x .a) (λ j. ap (word16 bs) (node-place (n .types) (n .inputs) h j 3 w)) a i)
       (column-filled (λ (y : Node). y .b) nodes _ _ (x .b) (λ j. ap (word16 bs) (node-place (n .types) (n .inputs) h j 5 w)) b i)
       (column-filled (λ (y : Node). y .c) nodes _ _ (x .c) (λ j. ap (word16 bs) (node-place (n .types) (n .inputs) h j 7 w)) c i)
-      (column-filled (λ (y : Node). y .value) nodes _ _ (x .values) (λ j. ap (λ (k : ℕ). signed32 (word32 bs k)) (node-place (n .types) (n .inputs) h j 9 w)) d i)
+      (column-filled (λ (y : Node). y .value) nodes _ _ (x .values) (λ j. ap (λ (k : ℕ). signed32 (word32 bs k)) (node-place (n .types) (n
+      .inputs) h j 9 w)) d i)
 
 -- ---- which tables can be filled
 

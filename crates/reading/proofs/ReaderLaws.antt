@@ -176,7 +176,8 @@ pub counts-fit : (bs : List ℕ) (x : Tables) {r : Reading} {m : Counts} → r �
 unfolding readReply reading orElse refusedUnless headCounts
 counts-fit bs x p c = rw (c, p) (go (fileRefusal bs) (longFor bs x) refl)
   where
-    go : (f : Option Checker.Refusal) (long : Bool) → longFor bs x ≡ long → FillFits (countsRead (reading (orElse f (refusedUnless long 21 0)) (headCounts bs))) x
+    go : (f : Option Checker.Refusal) (long : Bool) → longFor bs x ≡ long → FillFits (countsRead (reading (orElse f (refusedUnless long 21
+        0)) (headCounts bs))) x
     go none true e = fill-fits (headCounts bs) x e
     go none false e = none-fits x
     go (some f) long e = none-fits x
@@ -188,7 +189,8 @@ unfolding readReply readRefusal longEnough enough reading orElse refusedUnless r
 reads-by bs x y p c h = record { reply = ap readingReply p ∙ reading-reply _ _; tables = rw (c, p) at h ∙ go (fileRefusal bs) (longFor bs x) }
   where
     go : (f : Option Checker.Refusal) (long : Bool)
-        → filled (scriptBy (countsRead (reading (orElse f (refusedUnless long 21 0)) (headCounts bs))) bs) x ≡ readTables (orElse f (refusedUnless long 21 0)) bs x
+        → filled (scriptBy (countsRead (reading (orElse f (refusedUnless long 21 0)) (headCounts bs))) bs) x ≡ readTables (orElse f
+        (refusedUnless long 21 0)) bs x
     go none true = ap (λ (s : Script). filled s x) (by-head bs refl)
     go none false = by-none bs x
     go (some f) long = by-none bs x

@@ -108,7 +108,8 @@ module _ {n : Counts} {x : Tables} (rest : List ℕ) {file made : List ℕ} {rep
         let nodes : l ≡ size c = ap (λ (g : Made). nodesIn (g .reply)) given in
         let annotated : annotationRefusal s ≡ none = neither _ _ (t .free) .0 in
         let (fit, passes, again) =
-        written-again s (script-passes bs (h .bytes) (h .read)) annotated (values-fit bs (h .bytes)) zs (settings-fit rest all) programFuel (omega arith) c k (t .run) (t .fitting) in
+        written-again s (script-passes bs (h .bytes) (h .read)) annotated (values-fit bs (h .bytes)) zs (settings-fit rest all) programFuel
+        (omega arith) c k (t .run) (t .fitting) in
         let same : scriptIn (fileBytes (written s c)) ≡ written s c = read-written (written s c) fit in
         let read : fileRefusal (fileBytes (written s c)) ≡ none = file-refusal (written s c) fit ∙ passes in
         let part : take (fileLength 0 (n .inputs) l) made ≡ fileBytes (written s c) = file-part bs h c nodes (ap (λ (g : Made). g .output) given) in

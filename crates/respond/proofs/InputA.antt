@@ -15,5 +15,6 @@ use Rattle.streams.specs.Input.{headRight, scriptLengthBy, scriptLength, script
 
 pub input-a-printed :
     response (fileBytes inputA ++ (ascii "SV" ++ bytes32 (bits32 (pos 40)))) ≡ ascii "accepted\nsteps 6\nnodes 4\n(< i1 4000)\n"
-unfolding computing reading headRight scriptLengthBy scriptLength scriptPart settingsPart settingMarked wholeSettings settingAt settings madeBy answerReply unlessRefused scriptReply settingsReply inputReply replyTo pairText unmadeText countsText replyText response
+unfolding computing reading headRight scriptLengthBy scriptLength scriptPart settingsPart settingMarked wholeSettings settingAt settings
+    madeBy answerReply unlessRefused scriptReply settingsReply inputReply replyTo pairText unmadeText countsText replyText response
 input-a-printed = refl

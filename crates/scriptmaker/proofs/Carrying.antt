@@ -66,7 +66,8 @@ pub makes :
     (r : Reply) (q : MakeReply) → m ≡ countsOf n → Entry.Makes mode m x zs fuel before after out left r →
     q ≡ makeReply (replied r) → Makes mode n x zs fuel before after out left q
 makes mode n m x zs fuel before after out left r q same h e =
-    let k : Entry.Makes mode (countsOf n) x zs fuel before after out left r = subst (λ (o : Script.Counts). Entry.Makes mode o x zs fuel before after out left r) same h in
+    let k : Entry.Makes mode (countsOf n) x zs fuel before after out left r = subst (λ (o : Script.Counts). Entry.Makes mode o x zs fuel
+    before after out left r) same h in
     record {
       reply = e ∙ ap (λ (a : Made). makeReply (a .reply)) (k .gives);
       output = ap (λ (a : Made). a .output) (k .gives);

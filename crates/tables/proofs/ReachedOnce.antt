@@ -128,7 +128,8 @@ module _ (s : Script) (falls : (i m : ℕ) → i < nodeCount s → member m (chi
   times-step j r l =
       ap (λ t. occurrences j (walked t)) (falling-step blankTerm (treeStep s) r)
       ∙ walked-row j r (nodeAt s r) (below r blankTerm (tree s))
-      ∙ ap (λ k. oneIf (eqb r j) + k) (sum-same _ _ (children (nodeAt s r)) (λ m e. ap (λ t. occurrences j (walked t)) (below-at r blankTerm (tree s) m (falls r m l e))))
+      ∙ ap (λ k. oneIf (eqb r j) + k) (sum-same _ _ (children (nodeAt s r)) (λ m e. ap (λ t. occurrences j (walked t)) (below-at r
+      blankTerm (tree s) m (falls r m l e))))
 
   -- a tree has no node above its own
   none-above : (g j r : ℕ) → r < g → r < nodeCount s → r < j → times s j r ≡ 0

@@ -18,7 +18,8 @@ use Rattle.lambdamix.proofs.Falling.{below-at, falling-step, below-out}
 use Rattle.script.specs.Kinds.{isChild}
 use Rattle.script.specs.declared.Row.{Row}
 use Rattle.script.specs.Words.{Columns, columnsIn}
-use Rattle.walks.specs.Walks.{keptIf, rowChildren, wordChildren, childrenAt, gathered, heightStep, heightAt, tooHighStep, tooHighAt, heightOver, Tall, low, high, TallJoin, TallNode, TallOver}
+use Rattle.walks.specs.Walks.{keptIf, rowChildren, wordChildren, childrenAt, gathered, heightStep, heightAt, tooHighStep, tooHighAt, heightOver, Tall}
+use Rattle.walks.specs.Walks.{low, high, TallJoin, TallNode, TallOver}
 
 pub lowest-none : (r : Option ℕ) → lowest r none ≡ r
 unfolding lowest

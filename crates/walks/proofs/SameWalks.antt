@@ -18,7 +18,8 @@ use Rattle.script.specs.KindRows.{rowAt}
 use Rattle.script.specs.Tables.{Tables, rowNode, tablesScript}
 use Rattle.script.specs.Refusals.{nodeFits}
 use Rattle.script.specs.Words.{Packed, Columns, columnsIn}
-use Rattle.walks.specs.Walks.{columnsOf, keptIf, rowChildren, childrenAt, usesBelow, usedOnceAt, heightStep, heightAt, tooHighStep, tooHighAt, unboundField, unboundFields, unboundBy, unboundStep, unboundAt}
+use Rattle.walks.specs.Walks.{columnsOf, keptIf, rowChildren, childrenAt, usesBelow, usedOnceAt, heightStep, heightAt, tooHighStep, tooHighAt}
+use Rattle.walks.specs.Walks.{unboundField, unboundFields, unboundBy, unboundStep, unboundAt}
 use Rattle.script.proofs.Searching.{first-same}
 use Rattle.walks.proofs.Agreement.{structure-agrees}
 

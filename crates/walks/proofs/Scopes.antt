@@ -20,7 +20,8 @@ use Rattle.script.specs.Kinds.{isBinder, isChild}
 use Rattle.script.specs.declared.Row.{Row}
 use Rattle.script.specs.KindRows.{rowAt}
 use Rattle.script.specs.Words.{wordKind, wordA, wordB, wordC, Columns, columnsIn}
-use Rattle.walks.specs.Walks.{keptIf, rowChildren, wordChildren, gathered, heightAt, heightOver, unboundField, unboundFields, unboundBy, unboundStep, unboundAt, unboundBelow, innermost, Kept, Entered, Lower, same, node, Scoped}
+use Rattle.walks.specs.Walks.{keptIf, rowChildren, wordChildren, gathered, heightAt, heightOver, unboundField, unboundFields, unboundBy, unboundStep}
+use Rattle.walks.specs.Walks.{unboundAt, unboundBelow, innermost, Kept, Entered, Lower, same, node, Scoped}
 use Rattle.walks.proofs.Heights.{word-height, height-fields}
 
 -- kept names are the same list

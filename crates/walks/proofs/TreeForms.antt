@@ -20,7 +20,8 @@ use Rattle.script.specs.declared.Row as kinds
 use Rattle.script.specs.Kinds.{isChild, useOf}
 use Rattle.script.specs.KindRows.{rowAt}
 use Rattle.script.specs.Tables.{Tables, rowNode}
-use Rattle.walks.specs.Walks.{columnsOf, keptIf, rowChildren, childrenAt, gathered, heightStep, heightAt, unboundName, unboundField, unboundFields, unboundBy, unboundStep, unboundAt}
+use Rattle.walks.specs.Walks.{columnsOf, keptIf, rowChildren, childrenAt, gathered, heightStep, heightAt, unboundName, unboundField, unboundFields}
+use Rattle.walks.specs.Walks.{unboundBy, unboundStep, unboundAt}
 use Rattle.script.proofs.TableLaws.{row-uses}
 use Rattle.walks.proofs.Heights.{lowest-none}
 

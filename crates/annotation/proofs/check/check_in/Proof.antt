@@ -14,11 +14,12 @@ returns c = told-first (told-by (c .before .before .before .before .before .tabl
 returns-2 : tie.Need-returns-2
 unfolding checkRefusal rowNode
 returns-2 c =
-    let p = c .before .before .before .before .before .before .tables-packed in
-    let passed = c .before .before .enum-told .given .1 in
-    told-then (told-by (p .ensures .0)) passed
-    (c .annotation-refusal .ensures .reply _ _ _ _ _ (told-none (told-by (p .ensures .0)) passed)
-    (p .ensures .1 .nodes passed (c .before .before .before .before .before .before .before .before .before .before .before .before .before .before .before .before .pre)))
+    let at-tables-packed = c .before .before .before .before .before .before .tables-packed in
+    let at-enum-told = c .before .before .enum-told in
+    let at-pre = c .before .before .before .before .before .before .before .before .before .before .before .before .before .before .before
+    .before .pre in
+    let p = at-tables-packed in let passed = at-enum-told .given .1 in told-then (told-by (p .ensures .0)) passed (c .annotation-refusal
+    .ensures .reply _ _ _ _ _ (told-none (told-by (p .ensures .0)) passed) (p .ensures .1 .nodes passed (at-pre)))
 
 pub check-in-spec : {M : Type 1} → statement M
 check-in-spec =

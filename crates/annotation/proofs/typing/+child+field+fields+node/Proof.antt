@@ -186,7 +186,8 @@ fields-returns t c =
 node-fields-requires : (t : ℕ) → node-lts.Need-fields-requires (node-calls t) (node-at t) node.Post
 node-fields-requires t c κs = (
   omega (arith, c .before .before .before .before .before .before .pre .0),
-  of-row (c .before .before .before .before .node-word .ensures) (c .before .before .before .kind .ensures) (c .own-row .ensures) (omega (arith, c .before .before .match .rest .1, c .before .before .match .rest .0 .1)),
+  of-row (c .before .before .before .before .node-word .ensures) (c .before .before .before .kind .ensures) (c .own-row .ensures) (omega
+      (arith, c .before .before .match .rest .1, c .before .before .match .rest .0 .1)),
 )
 
 node-returns : (t : ℕ) → node-lts.Need-returns (node-calls t) (node-at t) node.Post
@@ -195,7 +196,8 @@ node-returns t c =
 
 node-returns-2 : (t : ℕ) → node-lts.Need-returns-2 (node-calls t) (node-at t) node.Post
 node-returns-2 t c =
-    at-variable (c .before .before .before .before .before .before .node-word .ensures) (c .before .before .before .before .before .kind .ensures) (omega (arith, c .before .before .before .before .match .keys2)) (c .before .name-a .ensures) (c .variable .ensures)
+    at-variable (c .before .before .before .before .before .before .node-word .ensures) (c .before .before .before .before .before .kind
+    .ensures) (omega (arith, c .before .before .before .before .match .keys2)) (c .before .name-a .ensures) (c .variable .ensures)
 
 pub +child+field+fields+node-spec : {M : Type 1} → statement M
 +child+field+fields+node-spec =

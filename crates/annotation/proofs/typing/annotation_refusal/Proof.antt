@@ -14,9 +14,14 @@ use Rattle.annotation.proofs.typing.annotation_refusal.Tie as tie
 returns : tie.Need-returns
 unfolding maxTypes maxInputs maxHeight
 returns c =
-    at-root (c .before .before .before .before .before .before .before .before .before .before .before .pack-types .ensures refl) (λ l. c .before .before .before .before .before .before .before .before .bind-inputs .ensures (omega (arith, length-replicate {A = ℕ} stackPlaces 0)))
-    (omega (arith, c .before .before .before .before .before .before .before .before .bind-inputs .kept, length-replicate {A = ℕ} stackPlaces 0)) (c .before .before .before .before .before .before .root .ensures) (c .before .node .ensures) (c .verdict .ensures)
+    let at-pack-types = c .before .before .before .before .before .before .before .before .before .before .before .pack-types in
+    let at-bind-inputs = c .before .before .before .before .before .before .before .before .bind-inputs in
+    let at-root = c .before .before .before .before .before .before .root in
+    at-root (at-pack-types .ensures refl) (λ l. at-bind-inputs .ensures (omega (arith, length-replicate {A = ℕ} stackPlaces 0))) (omega
+    (arith, at-bind-inputs .kept, length-replicate {A = ℕ} stackPlaces 0)) (at-root .ensures) (c .before .node .ensures) (c .verdict
+    .ensures)
 
 pub annotation-refusal-spec : {M : Type 1} → statement M
 annotation-refusal-spec =
-    tie.close (tie.spec (λ c. search needs) (λ c κs. search needs) (λ c. search needs) (λ c κs. search needs) (λ c κs. search needs) (λ c. search needs) (λ c κs. search needs) (λ c κs. search needs) returns)
+    tie.close (tie.spec (λ c. search needs) (λ c κs. search needs) (λ c. search needs) (λ c κs. search needs) (λ c κs. search needs) (λ c.
+    search needs) (λ c κs. search needs) (λ c κs. search needs) returns)

@@ -26,4 +26,6 @@ returns : tie.Need-returns Inv-loop μ-loop
 returns c = λ l. let f : c .before .loop .j ≡ c .before .before .before .before .args .count = omega arith in all-bound (rw f at (c .before .loop .inv .1)) l
 
 pub bind-inputs-spec : {M : Type 1} → statement M
-bind-inputs-spec = tie.close (tie.spec Inv-loop μ-loop loop-holds (λ c. omega arith) (λ c κs. search needs) (λ c κs. search needs) (λ c. omega arith) (λ c. omega arith) (λ c. omega arith) (λ c κs. search needs) (λ c. omega arith) (λ c. omega arith) loop-again same-length returns)
+bind-inputs-spec = tie.close (tie.spec Inv-loop μ-loop loop-holds (λ c. omega arith) (λ c κs. search needs) (λ c κs. search needs) (λ c.
+    omega arith) (λ c. omega arith) (λ c. omega arith) (λ c κs. search needs) (λ c. omega arith) (λ c. omega arith) loop-again same-length
+    returns)

@@ -23,7 +23,10 @@ same-length : tie.Need-same-length Inv-loop μ-loop
 same-length c = c .before .loop .inv .1 .same
 
 returns : tie.Need-returns Inv-loop μ-loop
-returns c = λ e l. let f : c .before .loop .j ≡ c .before .before .before .before .before .args .count = omega arith in all-packed (rw f at (c .before .loop .inv .1)) e l
+returns c =
+    let at-args = c .before .before .before .before .before .args in
+    λ e l. let f : c .before .loop .j ≡ at-args .count = omega arith in all-packed (rw f at (c .before .loop .inv .1)) e l
 
 pub pack-types-spec : {M : Type 1} → statement M
-pack-types-spec = tie.close (tie.spec Inv-loop μ-loop loop-holds (λ c κs. search needs) (λ c κs. search needs) (λ c κs. search needs) (λ c κs. search needs) (λ c. omega arith) (λ c. omega arith) loop-again same-length returns)
+pack-types-spec = tie.close (tie.spec Inv-loop μ-loop loop-holds (λ c κs. search needs) (λ c κs. search needs) (λ c κs. search needs) (λ c
+    κs. search needs) (λ c. omega arith) (λ c. omega arith) loop-again same-length returns)

@@ -1,7 +1,8 @@
 -- `annotation::typing::rule` meets its contract: the lowest fault goes first, else each arm is its kind's rule. Assumes nothing.
 use borrow.Author.Needs.{needs}
 use native.Mathlib.Omega.{arith}
-use Rattle.annotation.proofs.Rules.{NotAmong, past-all, fault-ruled, lift-ruled, function-ruled, apply-ruled, fix-ruled, if-ruled, operation-ruled, late-ruled}
+use Rattle.annotation.proofs.Rules.{NotAmong, past-all, fault-ruled, lift-ruled, function-ruled, apply-ruled, fix-ruled, if-ruled, operation-ruled}
+use Rattle.annotation.proofs.Rules.{late-ruled}
 use Rattle.annotation.proofs.typing.rule.Statement.{statement}
 use Rattle.annotation.proofs.typing.rule.Tie as tie
 
@@ -29,8 +30,10 @@ returns-7 c = search operation-ruled
 returns-8 : tie.Need-returns-8
 unfolding NotAmong
 returns-8 c =
-    let m = past-all 2 6 _ (omega (arith, c .before .before .before .kind .ensures, c .before .before .before .before .before .before .before .before .before .before .before .before .pre)) (c .before .before .match .rest) in
-    search (late-ruled, m)
+    let at-kind = c .before .before .before .kind in
+    let at-pre = c .before .before .before .before .before .before .before .before .before .before .before .before .pre in
+    let at-match = c .before .before .match in
+    let m = past-all 2 6 _ (omega (arith, at-kind .ensures, at-pre)) (at-match .rest) in search (late-ruled, m)
 
 pub rule-spec : {M : Type 1} → statement M
 rule-spec =

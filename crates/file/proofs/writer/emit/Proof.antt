@@ -9,10 +9,22 @@ use Rattle.file.proofs.writer.emit.Tie as tie
 
 returns : tie.Need-returns
 unfolding rowType rowInput rowNode
-returns c = put-file _ _ _ _ (c .before .before .before .before .before .before .before .before .before .before .before .before .before .before .head-at .ensures) (c .before .before .before .before .before .before .before .before .before .before .types-at .ensures) (c .before .before .before .before .before .before .inputs-at .ensures) (c .before .before .nodes-at .ensures)
+returns c =
+    let at-head-at = c .before .before .before .before .before .before .before .before .before .before .before .before .before .before
+    .head-at in
+    let at-types-at = c .before .before .before .before .before .before .before .before .before .before .types-at in
+    let at-inputs-at = c .before .before .before .before .before .before .inputs-at in
+    let at-nodes-at = c .before .before .nodes-at in
+    put-file _ _ _ _ (at-head-at .ensures) (at-types-at .ensures) (at-inputs-at .ensures) (at-nodes-at .ensures)
 
 nodes-requires : tie.Need-nodes-at-requires
-nodes-requires c κs = omega (arith, c .before .before .before .before .before .before .before .before .before .before .before .before .before .before .before .before .before .before .before .before .before .pre, put-length (c .before .before .before .before .before .before .before .before .before .before .before .head-at .ensures), put-length (c .before .before .before .before .before .before .before .types-at .ensures), put-length (c .before .before .before .inputs-at .ensures))
+nodes-requires c κs =
+    let at-pre = c .before .before .before .before .before .before .before .before .before .before .before .before .before .before .before
+    .before .before .before .before .before .before .pre in
+    let at-head-at = c .before .before .before .before .before .before .before .before .before .before .before .head-at in
+    let at-types-at = c .before .before .before .before .before .before .before .types-at in
+    let at-inputs-at = c .before .before .before .inputs-at in
+    omega (arith, at-pre, put-length (at-head-at .ensures), put-length (at-types-at .ensures), put-length (at-inputs-at .ensures))
 
 pub emit-spec : {M : Type 1} → statement M
 emit-spec =

@@ -10,8 +10,11 @@ use Rattle.file.proofs.writer.fit.Tie as tie
 
 returns : tie.Need-returns
 returns c =
-    let size = c .before .before .before .before .before .file-size .ensures ∙ sym (tables-length _ _ _ _) in
-    text-fits size (omega (arith, c .before .before .before .before .if1 .taken)) (put-over (c .before .before .emit .ensures) (omega (arith, size, c .before .before .before .before .if1 .taken)))
+    let at-file-size = c .before .before .before .before .before .file-size in
+    let at-if1 = c .before .before .before .before .if1 in
+    let at-emit = c .before .before .emit in
+    let size = at-file-size .ensures ∙ sym (tables-length _ _ _ _) in text-fits size (omega (arith, at-if1 .taken)) (put-over (at-emit
+    .ensures) (omega (arith, size, at-if1 .taken)))
 
 returns-2 : tie.Need-returns-2
 returns-2 c = text-short (c .before .file-size .ensures ∙ sym (tables-length _ _ _ _)) (omega (arith, c .if1 .left)) refl

@@ -11,7 +11,14 @@ use Rattle.file.proofs.writer.head_at.Tie as tie
 
 returns : tie.Need-returns
 unfolding headRow ascii bytes16
-returns c = put-both (c .before .before .before .before .before .before .before .before .before .before .before .before .before .before .pair-at .ensures) refl (put-both (c .before .before .before .before .before .before .before .before .before .before .word-at .ensures) (omega arith) (put-both (c .before .before .before .before .before .before .word-at2 .ensures) (omega arith) (c .before .before .word-at3 .ensures)))
+returns c =
+    let at-pair-at = c .before .before .before .before .before .before .before .before .before .before .before .before .before .before
+    .pair-at in
+    let at-word-at = c .before .before .before .before .before .before .before .before .before .before .word-at in
+    let at-word-at2 = c .before .before .before .before .before .before .word-at2 in
+    let at-word-at3 = c .before .before .word-at3 in
+    put-both (at-pair-at .ensures) refl (put-both (at-word-at .ensures) (omega arith) (put-both (at-word-at2 .ensures) (omega arith)
+    (at-word-at3 .ensures)))
 
 pub head-at-spec : {M : Type 1} → statement M
 head-at-spec =

@@ -20,7 +20,12 @@ unfolding inputOffset
 loop-holds c = progress-none (omega arith) (omega (arith, c .before .input-offset .ensures))
 
 loop-again : tie.Need-loop-again Inv-loop μ-loop
-loop-again c = progress-more (c .before .before .before .before .before .before .loop .inv) (c .before .before .before .before .before .loop-test .taken) (put-same (λ x. inputBytes (c .before .before .before .before .at16 .ensures x)) (c .before .before .input-at .ensures))
+loop-again c =
+    let at-loop = c .before .before .before .before .before .before .loop in
+    let at-loop-test = c .before .before .before .before .before .loop-test in
+    let at-at16 = c .before .before .before .before .at16 in
+    let at-input-at = c .before .before .input-at in
+    progress-more (at-loop .inv) (at-loop-test .taken) (put-same (λ x. inputBytes (at-at16 .ensures x)) (at-input-at .ensures))
 
 pub inputs-at-spec : {M : Type 1} → statement M
 inputs-at-spec =

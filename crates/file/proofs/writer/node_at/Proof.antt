@@ -13,7 +13,13 @@ use Rattle.file.proofs.writer.node_at.Tie as tie
 
 returns : tie.Need-returns
 unfolding nodeBytes nodeParts
-returns c = put-whole (node-sized _) (omega (arith, c .before .before .before .before .before .if1 .taken)) (rw (c .before .before .before .bits .ensures ∙ ap bits32 (toZ-ofZ (c .before .before .before .before .before .before .before .fits .value))) at (c .before .before .node-inside .ensures))
+returns c =
+    let at-if1 = c .before .before .before .before .before .if1 in
+    let at-bits = c .before .before .before .bits in
+    let at-fits = c .before .before .before .before .before .before .before .fits in
+    let at-node-inside = c .before .before .node-inside in
+    put-whole (node-sized _) (omega (arith, at-if1 .taken)) (rw (at-bits .ensures ∙ ap bits32 (toZ-ofZ (at-fits .value))) at
+    (at-node-inside .ensures))
 
 returns-2 : tie.Need-returns-2
 returns-2 c = put-none (node-sized _) (omega (arith, c .if1 .left))

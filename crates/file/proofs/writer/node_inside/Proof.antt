@@ -15,21 +15,40 @@ second-room : tie.Need-word-inside-requires-2
 second-room c κs = omega (arith, simp length-set at (c .before .before .before .word-inside .kept))
 
 third-room : tie.Need-word-inside-requires-3
-third-room c κs = omega (arith, simp length-set at (c .before .before .before .before .before .before .before .word-inside .kept), c .before .before .before .word-inside2 .kept)
+third-room c κs =
+    let at-word-inside = c .before .before .before .before .before .before .before .word-inside in
+    let at-word-inside2 = c .before .before .before .word-inside2 in
+    omega (arith, simp length-set at (at-word-inside .kept), at-word-inside2 .kept)
 
 value-room : tie.Need-value-inside-requires
-value-room c κs = omega (arith, simp length-set at (c .before .before .before .before .before .before .before .before .before .before .before .word-inside .kept), c .before .before .before .before .before .before .before .word-inside2 .kept, c .before .before .before .word-inside3 .kept)
+value-room c κs =
+    let at-word-inside = c .before .before .before .before .before .before .before .before .before .before .before .word-inside in
+    let at-word-inside2 = c .before .before .before .before .before .before .before .word-inside2 in
+    let at-word-inside3 = c .before .before .before .word-inside3 in
+    omega (arith, simp length-set at (at-word-inside .kept), at-word-inside2 .kept, at-word-inside3 .kept)
 
 same-length : tie.Need-same-length
-same-length c = omega (arith, simp length-set at (c .before .before .before .before .before .before .before .before .before .before .before .before .before .before .word-inside .kept), c .before .before .before .before .before .before .before .before .before .before .word-inside2 .kept, c .before .before .before .before .before .before .word-inside3 .kept, c .before .before .value-inside .kept)
+same-length c =
+    let at-word-inside = c .before .before .before .before .before .before .before .before .before .before .before .before .before .before
+    .word-inside in
+    let at-word-inside2 = c .before .before .before .before .before .before .before .before .before .before .word-inside2 in
+    let at-word-inside3 = c .before .before .before .before .before .before .word-inside3 in
+    let at-value-inside = c .before .before .value-inside in
+    omega (arith, simp length-set at (at-word-inside .kept), at-word-inside2 .kept, at-word-inside3 .kept, at-value-inside .kept)
 
 returns : tie.Need-returns
 unfolding nodeParts ascii bytes16
 returns c =
-    put-both (put-places 78 (68 ∷ c .before .before .before .before .before .before .before .before .before .before .before .before .before .before .before .before .before .args .kind ∷ []) (c .before .before .before .before .before .before .before .before .before .before .before .before .before .before .before .before .before .args .out .now) (c .before .before .before .before .before .before .before .before .before .before .before .before .before .before .before .before .before .args .at)) refl
-    (put-both (c .before .before .before .before .before .before .before .before .before .before .before .before .before .before .word-inside .ensures) (omega arith)
-    (put-both (c .before .before .before .before .before .before .before .before .before .before .word-inside2 .ensures) (omega arith)
-    (put-both (c .before .before .before .before .before .before .word-inside3 .ensures) (omega arith) (c .before .before .value-inside .ensures))))
+    let at-args = c .before .before .before .before .before .before .before .before .before .before .before .before .before .before .before
+    .before .before .args in
+    let at-word-inside = c .before .before .before .before .before .before .before .before .before .before .before .before .before .before
+    .word-inside in
+    let at-word-inside2 = c .before .before .before .before .before .before .before .before .before .before .word-inside2 in
+    let at-word-inside3 = c .before .before .before .before .before .before .word-inside3 in
+    let at-value-inside = c .before .before .value-inside in
+    put-both (put-places 78 (68 ∷ at-args .kind ∷ []) (at-args .out .now) (at-args .at)) refl (put-both (at-word-inside .ensures) (omega
+    arith) (put-both (at-word-inside2 .ensures) (omega arith) (put-both (at-word-inside3 .ensures) (omega arith) (at-value-inside
+    .ensures))))
 
 pub node-inside-spec : {M : Type 1} → statement M
 node-inside-spec =

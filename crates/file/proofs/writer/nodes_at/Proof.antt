@@ -24,7 +24,27 @@ loop-holds c = progress-none (omega arith) (omega (arith, c .before .node-offset
 
 loop-again : tie.Need-loop-again Inv-loop μ-loop
 unfolding fileLength nodeOffset
-loop-again c = progress-more (c .before .before .before .before .before .before .before .before .before .before .loop .inv) (c .before .before .before .before .before .before .before .before .before .loop-test .taken) (put-same (λ x. nodeBytes (record { kind = c .before .before .before .before .before .before .before .before .at8 .ensures x; a = c .before .before .before .before .before .before .before .at16 .ensures x; b = c .before .before .before .before .before .before .at162 .ensures x; c = c .before .before .before .before .before .at163 .ensures x; value = (toZ-ofZ {w = w32} (record { sfits = c .before .before .before .before .at32 .ok }) ∙ c .before .before .before .before .at32 .ensures) x })) (put-there (node-sized _) (omega (arith, c .before .before .before .before .before .before .before .before .before .before .before .before .before .before .before .before .before .before .pre, c .before .before .before .before .before .before .before .before .before .before .before .before .node-offset .ensures, c .before .before .before .before .before .before .before .before .before .before .loop .inv .kept, c .before .before .before .before .before .before .before .before .before .loop-test .taken)) (c .before .before .node-at .ensures)))
+loop-again c =
+    let at-loop = c .before .before .before .before .before .before .before .before .before .before .loop in
+    let at-loop-test = c .before .before .before .before .before .before .before .before .before .loop-test in
+    let at-at8 = c .before .before .before .before .before .before .before .before .at8 in
+    let at-at16 = c .before .before .before .before .before .before .before .at16 in
+    let at-at162 = c .before .before .before .before .before .before .at162 in
+    let at-at163 = c .before .before .before .before .before .at163 in
+    let at-at32 = c .before .before .before .before .at32 in
+    let at-pre = c .before .before .before .before .before .before .before .before .before .before .before .before .before .before .before
+    .before .before .before .pre in
+    let at-node-offset = c .before .before .before .before .before .before .before .before .before .before .before .before .node-offset in
+    let at-node-at = c .before .before .node-at in
+    progress-more (at-loop .inv) (at-loop-test .taken) (put-same (λ x. nodeBytes (record {
+      kind = at-at8 .ensures x;
+      a = at-at16 .ensures
+          x;
+      b = at-at162 .ensures x;
+      c = at-at163 .ensures x;
+      value = (toZ-ofZ {w = w32} (record { sfits = at-at32 .ok }) ∙ at-at32 .ensures) x;
+    })) (put-there (node-sized _) (omega (arith, at-pre, at-node-offset .ensures, at-loop .inv .kept, at-loop-test .taken)) (at-node-at
+    .ensures)))
 
 pub nodes-at-spec : {M : Type 1} → statement M
 nodes-at-spec =

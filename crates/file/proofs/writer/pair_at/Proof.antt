@@ -8,8 +8,13 @@ use Rattle.file.proofs.writer.pair_at.Tie as tie
 
 returns : tie.Need-returns
 returns c =
-    put-both {vs = c .before .before .before .before .before .before .before .before .before .before .args .first ∷ []} {ws = c .before .before .before .before .before .before .before .before .before .before .args .second ∷ []} (record { puts = c .before .before .before .before .before .before .put8 .ensures }) refl
-    (record { puts = c .before .before .put82 .ensures })
+    let at-args = c .before .before .before .before .before .before .before .before .before .before .args in
+    let at-put8 = c .before .before .before .before .before .before .put8 in
+    let at-put82 = c .before .before .put82 in
+    put-both {vs = at-args .first ∷ []} {ws = at-args .second ∷ []} (record { puts = at-put8 .ensures }) refl (record {
+      puts = at-put82
+          .ensures;
+    })
 
 returns-2 : tie.Need-returns-2
 returns-2 c = put-out _ (c .if1 .left)

@@ -11,7 +11,11 @@ use Rattle.file.proofs.writer.type_at.Tie as tie
 
 returns : tie.Need-returns
 unfolding typeBytes ascii bytes16
-returns c = put-both (c .before .before .before .before .before .before .before .before .before .before .pair-at .ensures) refl (put-both (c .before .before .before .before .before .before .word-at .ensures) (omega arith) (c .before .before .word-at2 .ensures))
+returns c =
+    let at-pair-at = c .before .before .before .before .before .before .before .before .before .before .pair-at in
+    let at-word-at = c .before .before .before .before .before .before .word-at in
+    let at-word-at2 = c .before .before .word-at2 in
+    put-both (at-pair-at .ensures) refl (put-both (at-word-at .ensures) (omega arith) (at-word-at2 .ensures))
 
 pub type-at-spec : {M : Type 1} → statement M
 type-at-spec =

@@ -20,7 +20,17 @@ unfolding typeOffset
 loop-holds c = progress-none (omega arith) (omega (arith, c .before .type-offset .ensures))
 
 loop-again : tie.Need-loop-again Inv-loop μ-loop
-loop-again c = progress-more (c .before .before .before .before .before .before .before .loop .inv) (c .before .before .before .before .before .before .loop-test .taken) (put-same (λ x. typeBytes (record { parameter = c .before .before .before .before .before .at16 .ensures x; result = c .before .before .before .before .at162 .ensures x })) (c .before .before .type-at .ensures))
+loop-again c =
+    let at-loop = c .before .before .before .before .before .before .before .loop in
+    let at-loop-test = c .before .before .before .before .before .before .loop-test in
+    let at-at16 = c .before .before .before .before .before .at16 in
+    let at-at162 = c .before .before .before .before .at162 in
+    let at-type-at = c .before .before .type-at in
+    progress-more (at-loop .inv) (at-loop-test .taken) (put-same (λ x. typeBytes (record {
+      parameter = at-at16 .ensures x;
+      result =
+          at-at162 .ensures x;
+    })) (at-type-at .ensures))
 
 pub types-at-spec : {M : Type 1} → statement M
 types-at-spec =

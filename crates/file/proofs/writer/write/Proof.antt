@@ -10,15 +10,22 @@ use Rattle.file.proofs.writer.write.Tie as tie
 returns : tie.Need-returns
 unfolding writeRefusal
 returns c =
+    let at-tables-refusal = c .before .before .before .before .before .before .tables-refusal in
+    let at-enum-told = c .before .before .before .before .enum-told in
+    let at-fit = c .before .before .fit in
+    let at-tables-fit = c .before .before .before .before .before .before .before .tables-fit in
     record {
-      text = writes-passed (told-by (c .before .before .before .before .before .before .tables-refusal .ensures)) (c .before .before .before .before .enum-told .given .1) (c .before .before .fit .ensures);
-      lent = c .before .before .before .before .before .before .before .tables-fit .ensures;
+      text = writes-passed (told-by (at-tables-refusal .ensures)) (at-enum-told .given .1) (at-fit .ensures);
+      lent = at-tables-fit
+          .ensures;
     }
 
 returns-2 : tie.Need-returns-2
 unfolding writeRefusal
 returns-2 c =
-    record { text = writes-refused (told-by (c .before .before .before .tables-refusal .ensures)) (c .before .f .given .1) refl; lent = c .before .before .before .before .tables-fit .ensures }
+    let at-tables-refusal = c .before .before .before .tables-refusal in
+    let at-tables-fit = c .before .before .before .before .tables-fit in
+    record { text = writes-refused (told-by (at-tables-refusal .ensures)) (c .before .f .given .1) refl; lent = at-tables-fit .ensures }
 
 pub write-spec : {M : Type 1} → statement M
 write-spec =

@@ -7,10 +7,19 @@ use Rattle.printer.proofs.list.list_tables.Tie as tie
 
 returns : tie.Need-returns
 returns c =
-    lists-whole (omega (arith, c .before .before .before .before .before .before .before .before .before .before .before .before .before .before .good)) (omega (arith, c .before .before .before .before .before .before .before .whole .kept)) (c .before .before .before .before .before .before .before .whole .ensures) (omega (arith, c .before .before .before .before .if1 .taken)) (c .before .before .whole2 .ensures)
+    let at-good = c .before .before .before .before .before .before .before .before .before .before .before .before .before .before .good
+    in
+    let at-whole = c .before .before .before .before .before .before .before .whole in
+    let at-if1 = c .before .before .before .before .if1 in
+    let at-whole2 = c .before .before .whole2 in
+    lists-whole (omega (arith, at-good)) (omega (arith, at-whole .kept)) (at-whole .ensures) (omega (arith, at-if1 .taken)) (at-whole2
+    .ensures)
 
 returns-2 : tie.Need-returns-2
-returns-2 c = lists-nothing (omega (arith, c .before .before .before .before .before .before .before .before .before .before .good)) (omega (arith, c .before .before .before .whole .kept)) (c .before .before .before .whole .ensures) (omega (arith, c .if1 .left))
+returns-2 c =
+    let at-good = c .before .before .before .before .before .before .before .before .before .before .good in
+    let at-whole = c .before .before .before .whole in
+    lists-nothing (omega (arith, at-good)) (omega (arith, at-whole .kept)) (at-whole .ensures) (omega (arith, c .if1 .left))
 
 pub list-tables-spec : {M : Type 1} → statement M
 list-tables-spec =

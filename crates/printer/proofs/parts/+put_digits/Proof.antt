@@ -29,15 +29,28 @@ abbrev given : (t : ℕ) → put-digits-lts.Claims
 given t = (put8-reads.Asked, put8-reads.Learnt, put-digits-below t, put-digits.Post)
 
 put-digits-returns : (t : ℕ) → put-digits-lts.Need-returns (given t) (put-digits-at t) put-digits.Post
-put-digits-returns t c = rw (one-digit (c .before .before .before .before .before .before .args .x) (c .before .before .before .before .if1 .taken)) (put-last (48 + c .before .before .before .before .before .before .args .x) put-none (c .before .before .put8 .ensures))
+put-digits-returns t c = rw (one-digit (c .before .before .before .before .before .before .args .x) (c .before .before .before .before .if1
+    .taken)) (put-last (48 + c .before .before .before .before .before .before .args .x) put-none (c .before .before .put8 .ensures))
 
 put-digits-add-result : (t : ℕ) → put-digits-lts.Need-add-result (given t) (put-digits-at t) put-digits.Post
 put-digits-add-result t c =
-    omega (arith, c .before .before .before .before .before .before .put-digits .ensures .counted, digits-within 19 (c .before .before .before .before .before .before .before .before .before .before .args .x / 10) (omega (arith, c .before .before .before .before .before .before .before .before .before .before .fits .x)))
+    omega (
+      arith,
+      c .before .before .before .before .before .before .put-digits .ensures .counted,
+      digits-within 19 (c .before .before
+          .before .before .before .before .before .before .before .before .args .x / 10) (omega (
+            arith,
+            c .before .before .before .before .before
+                .before .before .before .before .before .fits .x,
+          )),
+    )
 
 put-digits-returns-2 : (t : ℕ) → put-digits-lts.Need-returns-2 (given t) (put-digits-at t) put-digits.Post
 put-digits-returns-2 t c =
-    rw (last-digit (c .before .before .before .before .before .before .before .before .before .before .args .x) (c .before .before .before .before .before .before .before .before .if1 .left)) (put-last (48 + c .before .before .before .before .before .before .before .before .before .before .args .x % 10) (c .before .before .before .before .before .before .put-digits .ensures) (c .before .before .put82 .ensures))
+    rw (last-digit (c .before .before .before .before .before .before .before .before .before .before .args .x) (c .before .before .before
+    .before .before .before .before .before .if1 .left)) (put-last (48 + c .before .before .before .before .before .before .before .before
+    .before .before .args .x % 10) (c .before .before .before .before .before .before .put-digits .ensures) (c .before .before .put82
+    .ensures))
 
 pub +put-digits-spec : {M : Type 1} → statement M
 +put-digits-spec =

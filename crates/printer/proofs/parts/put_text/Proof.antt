@@ -31,7 +31,16 @@ loop-less : tie.Need-loop-less Inv-loop μ-loop
 loop-less c = search needs
 
 loop-again : tie.Need-loop-again Inv-loop μ-loop
-loop-again c = (search needs, c .before .before .put8 .kept .0 ∙ c .before .before .before .before .before .before .loop .inv .1, put-next (c .before .before .before .before .before .before .before .before .before .args .text .now) (c .before .before .before .before .before .before .loop .i) (c .before .before .before .before .before .loop-test .taken) (c .before .before .before .before .before .before .loop .inv .2) (c .before .before .put8 .ensures))
+loop-again c =
+    let at-put8 = c .before .before .put8 in
+    let at-loop = c .before .before .before .before .before .before .loop in
+    let at-args = c .before .before .before .before .before .before .before .before .before .args in
+    let at-loop-test = c .before .before .before .before .before .loop-test in (
+      search needs,
+      at-put8 .kept .0 ∙ at-loop .inv .1,
+      put-next (at-args .text .now) (at-loop .i) (at-loop-test .taken) (at-loop .inv .2)
+          (at-put8 .ensures),
+    )
 
 same-length : tie.Need-same-length Inv-loop μ-loop
 same-length c = search needs

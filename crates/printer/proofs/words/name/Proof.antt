@@ -8,4 +8,5 @@ use Rattle.printer.proofs.words.name.Tie as tie
 
 pub name-spec : {M : Type 1} → statement M
 unfolding nameText nameBy ascii
-name-spec = tie.close (tie.spec (λ c. search needs) (λ c. rw (lt-ltb (c .before .args .x .0) (c .before .args .inputs) (c .if1 .taken))) (λ c. search needs) (λ c. rw (le-ltb (c .before .args .x .0) (c .before .args .inputs) (c .if1 .left))))
+name-spec = tie.close (tie.spec (λ c. search needs) (λ c. rw (lt-ltb (c .before .args .x .0) (c .before .args .inputs) (c .if1 .taken))) (λ
+    c. search needs) (λ c. rw (le-ltb (c .before .args .x .0) (c .before .args .inputs) (c .if1 .left))))

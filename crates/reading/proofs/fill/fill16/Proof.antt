@@ -15,9 +15,14 @@ abbrev μ-loop : tie.MeasureT-loop
 
 loop-again : tie.Need-loop-again Inv-loop μ-loop
 loop-again c =
-    fill-goes-on _ (c .before .before .before .before .before .before .before .loop .inv) (c .before .before .before .before .before .before .loop-test .taken)
-    (c .before .before .before .before .word16 .ensures ∙ ap (word16 (c .before .before .before .before .before .before .before .before .before .before .args .file .now)) (c .before .before .before .before .before .place .ensures))
-    (c .before .before .put16 .ensures)
+    let at-loop = c .before .before .before .before .before .before .before .loop in
+    let at-loop-test = c .before .before .before .before .before .before .loop-test in
+    let at-word16 = c .before .before .before .before .word16 in
+    let at-args = c .before .before .before .before .before .before .before .before .before .before .args in
+    let at-place = c .before .before .before .before .before .place in
+    let at-put16 = c .before .before .put16 in
+    fill-goes-on _ (at-loop .inv) (at-loop-test .taken) (at-word16 .ensures ∙ ap (word16 (at-args .file .now)) (at-place .ensures))
+    (at-put16 .ensures)
 
 pub fill16-spec : {M : Type 1} → statement M
 fill16-spec =

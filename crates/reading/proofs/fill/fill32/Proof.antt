@@ -17,9 +17,13 @@ abbrev μ-loop : tie.MeasureT-loop
 
 loop-again : tie.Need-loop-again Inv-loop μ-loop
 loop-again c =
-    fill-goes-on _ (c .before .before .before .before .before .before .loop .inv) (c .before .before .before .before .before .loop-test .taken)
-    (toZ-ofZ {w = w32} (record { sfits = c .before .before .before .value32 .ok }) ∙ c .before .before .before .value32 .ensures ∙ ap (λ (k : ℕ). signed32 (word32 (c .before .before .before .before .before .before .before .before .args .file .now) k)) (c .before .before .before .before .place .ensures))
-    (c .before .put32 .ensures)
+    let at-loop = c .before .before .before .before .before .before .loop in
+    let at-loop-test = c .before .before .before .before .before .loop-test in
+    let at-value32 = c .before .before .before .value32 in
+    let at-args = c .before .before .before .before .before .before .before .before .args in
+    let at-place = c .before .before .before .before .place in
+    fill-goes-on _ (at-loop .inv) (at-loop-test .taken) (toZ-ofZ {w = w32} (record { sfits = at-value32 .ok }) ∙ at-value32 .ensures ∙ ap
+    (λ (k : ℕ). signed32 (word32 (at-args .file .now) k)) (at-place .ensures)) (c .before .put32 .ensures)
 
 pub fill32-spec : {M : Type 1} → statement M
 fill32-spec =

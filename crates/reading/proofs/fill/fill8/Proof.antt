@@ -17,9 +17,14 @@ abbrev μ-loop : tie.MeasureT-loop
 loop-again : tie.Need-loop-again Inv-loop μ-loop
 unfolding byteAt
 loop-again c =
-    fill-goes-on _ (c .before .before .before .before .before .before .before .loop .inv) (c .before .before .before .before .before .before .loop-test .taken)
-    (c .before .before .before .before .at8 .ensures ∙ ap (λ (k : ℕ). getD (c .before .before .before .before .before .before .before .before .before .before .args .file .now) k 0) (c .before .before .before .before .before .place .ensures))
-    (c .before .before .put8 .ensures)
+    let at-loop = c .before .before .before .before .before .before .before .loop in
+    let at-loop-test = c .before .before .before .before .before .before .loop-test in
+    let at-at8 = c .before .before .before .before .at8 in
+    let at-args = c .before .before .before .before .before .before .before .before .before .before .args in
+    let at-place = c .before .before .before .before .before .place in
+    let at-put8 = c .before .before .put8 in
+    fill-goes-on _ (at-loop .inv) (at-loop-test .taken) (at-at8 .ensures ∙ ap (λ (k : ℕ). getD (at-args .file .now) k 0) (at-place
+    .ensures)) (at-put8 .ensures)
 
 pub fill8-spec : {M : Type 1} → statement M
 fill8-spec =

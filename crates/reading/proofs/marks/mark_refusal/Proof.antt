@@ -8,20 +8,34 @@ use Rattle.reading.proofs.marks.mark_refusal.Tie as tie
 
 returns : tie.Need-returns
 unfolding markRefusal
-returns c = told-first (type-marks _ _ _ (c .before .before .before .before .type-offset .ensures) (c .before .before .before .unmarked .ensures)) _ (c .before .f .given .1) (search needs)
+returns c =
+    let at-type-offset = c .before .before .before .before .type-offset in
+    let at-unmarked = c .before .before .before .unmarked in
+    told-first (type-marks _ _ _ (at-type-offset .ensures) (at-unmarked .ensures)) _ (c .before .f .given .1) (search needs)
 
 returns-2 : tie.Need-returns-2
 unfolding markRefusal
 returns-2 c =
-    told-then (type-marks _ _ _ (c .before .before .before .before .before .before .before .before .type-offset .ensures) (c .before .before .before .before .before .before .before .unmarked .ensures)) (c .before .before .before .before .before .enum-told .given .1)
-    (told-first (input-marks _ _ _ _ (c .before .before .before .before .input-offset .ensures) (c .before .before .before .unmarked2 .ensures)) _ (c .before .f2 .given .1) (search needs))
+    let at-type-offset = c .before .before .before .before .before .before .before .before .type-offset in
+    let at-unmarked = c .before .before .before .before .before .before .before .unmarked in
+    let at-enum-told = c .before .before .before .before .before .enum-told in
+    let at-input-offset = c .before .before .before .before .input-offset in
+    let at-unmarked2 = c .before .before .before .unmarked2 in
+    told-then (type-marks _ _ _ (at-type-offset .ensures) (at-unmarked .ensures)) (at-enum-told .given .1) (told-first (input-marks _ _ _ _
+    (at-input-offset .ensures) (at-unmarked2 .ensures)) _ (c .before .f2 .given .1) (search needs))
 
 returns-3 : tie.Need-returns-3
 unfolding markRefusal
 returns-3 c =
-    told-then (type-marks _ _ _ (c .before .before .before .before .before .before .before .before .before .type-offset .ensures) (c .before .before .before .before .before .before .before .before .unmarked .ensures)) (c .before .before .before .before .before .before .enum-told .given .1)
-    (told-then (input-marks _ _ _ _ (c .before .before .before .before .before .input-offset .ensures) (c .before .before .before .before .unmarked2 .ensures)) (c .before .before .enum-told2 .given .1)
-    (node-marks _ _ _ _ _ (c .before .node-offset .ensures) (c .unmarked3 .ensures)))
+    let at-type-offset = c .before .before .before .before .before .before .before .before .before .type-offset in
+    let at-unmarked = c .before .before .before .before .before .before .before .before .unmarked in
+    let at-enum-told = c .before .before .before .before .before .before .enum-told in
+    let at-input-offset = c .before .before .before .before .before .input-offset in
+    let at-unmarked2 = c .before .before .before .before .unmarked2 in
+    let at-enum-told2 = c .before .before .enum-told2 in
+    told-then (type-marks _ _ _ (at-type-offset .ensures) (at-unmarked .ensures)) (at-enum-told .given .1) (told-then (input-marks _ _ _ _
+    (at-input-offset .ensures) (at-unmarked2 .ensures)) (at-enum-told2 .given .1) (node-marks _ _ _ _ _ (c .before .node-offset .ensures)
+    (c .unmarked3 .ensures)))
 
 pub mark-refusal-spec : {M : Type 1} → statement M
 mark-refusal-spec =

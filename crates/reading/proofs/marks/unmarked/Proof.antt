@@ -21,11 +21,23 @@ at-place : (x y : ℕ) (file : List ℕ) {at o : ℕ} {b r : Bool} → at ≡ o 
 at-place x y file p e h = ap (marked x y file) (sym p) ∙ sym e ∙ h
 
 loop-again : tie.Need-loop-again Inv-loop μ-loop
-loop-again c = search-goes-on _ (c .before .before .before .before .loop .inv) (c .before .before .before .loop-test .taken) (at-place _ _ _ (c .before .before .place .ensures) (c .before .marked .ensures) (c .if1 .taken))
+loop-again c =
+    let at-loop = c .before .before .before .before .loop in
+    let at-loop-test = c .before .before .before .loop-test in
+    let at-place = c .before .before .place in
+    search-goes-on _ (at-loop .inv) (at-loop-test .taken) (at-place _ _ _ (at-place .ensures) (c .before .marked .ensures) (c .if1 .taken))
 
 returns : tie.Need-returns Inv-loop μ-loop
 unfolding refusalOf refusedRecord
-returns c = rw (c .before .before .place .ensures, ← search-finds _ (c .before .before .before .before .loop .inv) (c .before .before .before .loop-test .taken) (at-place _ _ _ (c .before .before .place .ensures) (c .before .marked .ensures) (c .if1 .left)))
+returns c =
+    let at-place = c .before .before .place in
+    let at-loop = c .before .before .before .before .loop in
+    let at-loop-test = c .before .before .before .loop-test in
+    rw (
+      at-place .ensures,
+      ← search-finds _ (at-loop .inv) (at-loop-test .taken) (at-place _ _ _ (at-place .ensures) (c .before .marked
+          .ensures) (c .if1 .left)),
+    )
 
 returns-2 : tie.Need-returns-2 Inv-loop μ-loop
 unfolding refusalOf refusedRecord

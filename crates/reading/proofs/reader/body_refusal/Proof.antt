@@ -9,16 +9,24 @@ use Rattle.reading.proofs.reader.body_refusal.Tie as tie
 fill-tables-requires : tie.Need-fill-tables-requires
 unfolding maxTypes maxInputs maxNodes
 fill-tables-requires c κs =
-    own-fits _ _ (c .before .before .before .before .before .before .before .before .before .head-counts .ensures) (c .before .before .before .before .before .before .before .before .before .before .before .pre) refl refl refl refl refl refl refl refl
+    let at-head-counts = c .before .before .before .before .before .before .before .before .before .head-counts in
+    let at-pre = c .before .before .before .before .before .before .before .before .before .before .before .pre in
+    own-fits _ _ (at-head-counts .ensures) (at-pre) refl refl refl refl refl refl refl refl
 
 returns : tie.Need-returns
 unfolding maxTypes maxInputs maxNodes
 returns c =
-    let k = c .before .before .before .before .before .before .before .before .before .before .before .before .before .before .before .before .before .before .fill-tables .kept .1 .1 in
-    let n = c .before .before .before .before .before .before .before .before .before .before .before .before .before .before .before .before .before .before .before .before .before .before .before .before .before .before .before .before .head-counts .ensures in
-    body-by-tables _ n (c .before .before .before .before .before .before .before .before .before .before .before .before .before .before .before .before .before .before .before .before .before .before .before .before .before .before .before .before .before .before .pre) _ (c .before .before .before .before .before .before .before .before .before .before .before .before .before .before .before .before .before .before .fill-tables .ensures)
-    (own-fits _ _ n (c .before .before .before .before .before .before .before .before .before .before .before .before .before .before .before .before .before .before .before .before .before .before .before .before .before .before .before .before .before .before .pre) (k .0) (k .1 .0) (k .1 .1 .0) (k .1 .1 .1 .0) (k .1 .1 .1 .1 .0) (k .1 .1 .1 .1 .1 .0) (k .1 .1 .1 .1 .1 .1 .0) (k .1 .1 .1 .1 .1 .1 .1 .0))
-    (c .before .before .before .before .before .before .before .before .before .before .before .before .before .before .before .before .before .before .before .before .before .before .before .before .before .before .before .mark-refusal .ensures) (told-by (c .before .tables-refusal .ensures)) (c .marks-first .ensures)
+    let at-fill-tables = c .before .before .before .before .before .before .before .before .before .before .before .before .before .before
+    .before .before .before .before .fill-tables in
+    let at-head-counts = c .before .before .before .before .before .before .before .before .before .before .before .before .before .before
+    .before .before .before .before .before .before .before .before .before .before .before .before .before .before .head-counts in
+    let at-pre = c .before .before .before .before .before .before .before .before .before .before .before .before .before .before .before
+    .before .before .before .before .before .before .before .before .before .before .before .before .before .before .before .pre in
+    let at-mark-refusal = c .before .before .before .before .before .before .before .before .before .before .before .before .before .before
+    .before .before .before .before .before .before .before .before .before .before .before .before .before .mark-refusal in
+    let k = at-fill-tables .kept .1 .1 in let n = at-head-counts .ensures in body-by-tables _ n (at-pre) _ (at-fill-tables .ensures)
+    (own-fits _ _ n (at-pre) (k .0) (k .1 .0) (k .1 .1 .0) (k .1 .1 .1 .0) (k .1 .1 .1 .1 .0) (k .1 .1 .1 .1 .1 .0) (k .1 .1 .1 .1 .1 .1
+    .0) (k .1 .1 .1 .1 .1 .1 .1 .0)) (at-mark-refusal .ensures) (told-by (c .before .tables-refusal .ensures)) (c .marks-first .ensures)
 
 pub body-refusal-spec : {M : Type 1} → statement M
 body-refusal-spec =
@@ -39,10 +47,22 @@ body-refusal-spec =
     (λ c. sym (c .before .before .before .before .before .before .before .before .before .before .fill-tables .kept .1 .1 .1 .0))
     (λ c. sym (c .before .before .before .before .before .before .before .before .before .before .before .fill-tables .kept .1 .1 .1 .1 .0))
     (λ c. sym (c .before .before .before .before .before .before .before .before .before .before .before .before .fill-tables .kept .1 .1 .1 .1 .1 .0))
-    (λ c. sym (c .before .before .before .before .before .before .before .before .before .before .before .before .before .fill-tables .kept .1 .1 .1 .1 .1 .1 .0))
-    (λ c. sym (c .before .before .before .before .before .before .before .before .before .before .before .before .before .before .fill-tables .kept .1 .1 .1 .1 .1 .1 .1 .0))
-    (λ c. sym (c .before .before .before .before .before .before .before .before .before .before .before .before .before .before .before .fill-tables .kept .1 .1 .1 .1 .1 .1 .1 .1 .0))
-    (λ c. sym (c .before .before .before .before .before .before .before .before .before .before .before .before .before .before .before .before .fill-tables .kept .1 .1 .1 .1 .1 .1 .1 .1 .1 .0))
+    (λ c.
+    let at-fill-tables = c .before .before .before .before .before .before .before .before .before .before .before .before .before
+    .fill-tables in
+    sym (at-fill-tables .kept .1 .1 .1 .1 .1 .1 .0))
+    (λ c.
+    let at-fill-tables = c .before .before .before .before .before .before .before .before .before .before .before .before .before .before
+    .fill-tables in
+    sym (at-fill-tables .kept .1 .1 .1 .1 .1 .1 .1 .0))
+    (λ c.
+    let at-fill-tables = c .before .before .before .before .before .before .before .before .before .before .before .before .before .before
+    .before .fill-tables in
+    sym (at-fill-tables .kept .1 .1 .1 .1 .1 .1 .1 .1 .0))
+    (λ c.
+    let at-fill-tables = c .before .before .before .before .before .before .before .before .before .before .before .before .before .before
+    .before .before .fill-tables in
+    sym (at-fill-tables .kept .1 .1 .1 .1 .1 .1 .1 .1 .1 .0))
     (λ c κs. tt)
     (λ c κs. tt)
     returns)

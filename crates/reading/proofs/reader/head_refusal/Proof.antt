@@ -14,22 +14,38 @@ returns c = head-by-tests _ (lt-leb _ _ (c .if1 .taken)) refl refl refl
 returns-2 : tie.Need-returns-2
 unfolding refusalOf refusedUnless orElse
 returns-2 c =
-    head-by-tests _ (le-leb _ _ (c .before .before .before .before .before .before .before .if1 .left)) (sym (c .before .before .before .before .before .before .marked .ensures) ∙ c .before .before .before .before .before .if2 .taken)
-    (counts-told _ (c .before .before .before .before .head-counts .ensures) (c .before .before .before .counts-right .ensures) (c .before .before .if3 .taken))
-    (eq-eqb _ _ (c .if4 .taken ∙ length-told _ (c .before .before .before .before .head-counts .ensures) (c .before .file-size .ensures)))
+    let at-if1 = c .before .before .before .before .before .before .before .if1 in
+    let at-marked = c .before .before .before .before .before .before .marked in
+    let at-if2 = c .before .before .before .before .before .if2 in
+    let at-head-counts = c .before .before .before .before .head-counts in
+    let at-counts-right = c .before .before .before .counts-right in
+    let at-if3 = c .before .before .if3 in
+    head-by-tests _ (le-leb _ _ (at-if1 .left)) (sym (at-marked .ensures) ∙ at-if2 .taken) (counts-told _ (at-head-counts .ensures)
+    (at-counts-right .ensures) (at-if3 .taken)) (eq-eqb _ _ (c .if4 .taken ∙ length-told _ (at-head-counts .ensures) (c .before .file-size
+    .ensures)))
 
 returns-3 : tie.Need-returns-3
 unfolding refusalOf refusedUnless orElse
 returns-3 c =
-    head-by-tests _ (le-leb _ _ (c .before .before .before .before .before .before .before .if1 .left)) (sym (c .before .before .before .before .before .before .marked .ensures) ∙ c .before .before .before .before .before .if2 .taken)
-    (counts-told _ (c .before .before .before .before .head-counts .ensures) (c .before .before .before .counts-right .ensures) (c .before .before .if3 .taken))
-    (ne-eqb _ _ (λ e. c .if4 .left (e ∙ sym (length-told _ (c .before .before .before .before .head-counts .ensures) (c .before .file-size .ensures)))))
+    let at-if1 = c .before .before .before .before .before .before .before .if1 in
+    let at-marked = c .before .before .before .before .before .before .marked in
+    let at-if2 = c .before .before .before .before .before .if2 in
+    let at-head-counts = c .before .before .before .before .head-counts in
+    let at-counts-right = c .before .before .before .counts-right in
+    let at-if3 = c .before .before .if3 in
+    head-by-tests _ (le-leb _ _ (at-if1 .left)) (sym (at-marked .ensures) ∙ at-if2 .taken) (counts-told _ (at-head-counts .ensures)
+    (at-counts-right .ensures) (at-if3 .taken)) (ne-eqb _ _ (λ e. c .if4 .left (e ∙ sym (length-told _ (at-head-counts .ensures) (c .before
+    .file-size .ensures)))))
 
 returns-4 : tie.Need-returns-4
 unfolding refusalOf refusedUnless orElse
 returns-4 c =
-    head-by-tests _ (le-leb _ _ (c .before .before .before .before .before .if1 .left)) (sym (c .before .before .before .before .marked .ensures) ∙ c .before .before .before .if2 .taken)
-    (counts-told _ (c .before .before .head-counts .ensures) (c .before .counts-right .ensures) (c .if3 .left)) refl
+    let at-if1 = c .before .before .before .before .before .if1 in
+    let at-marked = c .before .before .before .before .marked in
+    let at-if2 = c .before .before .before .if2 in
+    let at-head-counts = c .before .before .head-counts in
+    head-by-tests _ (le-leb _ _ (at-if1 .left)) (sym (at-marked .ensures) ∙ at-if2 .taken) (counts-told _ (at-head-counts .ensures) (c
+    .before .counts-right .ensures) (c .if3 .left)) refl
 
 returns-5 : tie.Need-returns-5
 unfolding refusalOf refusedUnless orElse

@@ -9,7 +9,11 @@ use Rattle.reading.proofs.reader.marks_first.Tie as tie
 
 returns : tie.Need-returns
 unfolding marksFirst earlierBy refusalOf
-returns c = rw (c .before .before .before .before .before .before .before .before .before .e .given .1, c .before .before .before .before .before .before .f .given .1, lt-ltb _ _ (c .before .before .before .if1 .taken), lt-ltb _ _ (c .if2 .taken))
+returns c =
+    let at-e = c .before .before .before .before .before .before .before .before .before .e in
+    let at-f = c .before .before .before .before .before .before .f in
+    let at-if1 = c .before .before .before .if1 in
+    rw (at-e .given .1, at-f .given .1, lt-ltb _ _ (at-if1 .taken), lt-ltb _ _ (c .if2 .taken))
 
 returns-2 : tie.Need-returns-2
 unfolding marksFirst refusalOf
@@ -21,7 +25,11 @@ returns-3 c = rw (c .before .before .before .e .given .1, c .enum-told2 .given .
 
 returns-4 : tie.Need-returns-4
 unfolding marksFirst earlierBy refusalOf
-returns-4 c = rw (c .before .before .before .before .before .before .before .before .before .e .given .1, c .before .before .before .before .before .before .f .given .1, lt-ltb _ _ (c .before .before .before .if1 .taken), le-ltb _ _ (c .if2 .left))
+returns-4 c =
+    let at-e = c .before .before .before .before .before .before .before .before .before .e in
+    let at-f = c .before .before .before .before .before .before .f in
+    let at-if1 = c .before .before .before .if1 in
+    rw (at-e .given .1, at-f .given .1, lt-ltb _ _ (at-if1 .taken), le-ltb _ _ (c .if2 .left))
 
 returns-5 : tie.Need-returns-5
 unfolding marksFirst earlierBy refusalOf

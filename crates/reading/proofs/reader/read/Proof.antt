@@ -5,10 +5,20 @@ use Rattle.reading.proofs.reader.read.Statement.{statement}
 use Rattle.reading.proofs.reader.read.Tie as tie
 
 fill-tables-requires : tie.Need-fill-tables-requires
-fill-tables-requires c κs = counts-fit _ _ (c .before .before .before .before .before .before .before .before .before .reply .ensures) (c .before .before .before .before .before .before .before .before .counts-read .ensures)
+fill-tables-requires c κs =
+    let at-reply = c .before .before .before .before .before .before .before .before .before .reply in
+    let at-counts-read = c .before .before .before .before .before .before .before .before .counts-read in
+    counts-fit _ _ (at-reply .ensures) (at-counts-read .ensures)
 
 returns : tie.Need-returns
-returns c = reads-by _ _ _ (c .before .before .before .before .before .before .before .before .before .before .before .before .before .before .before .before .before .before .before .before .before .before .before .before .before .reply .ensures) (c .before .before .before .before .before .before .before .before .before .before .before .before .before .before .before .before .before .before .before .before .before .before .before .before .counts-read .ensures) (c .before .before .before .before .before .before .before .before .before .before .before .before .before .before .before .fill-tables .ensures)
+returns c =
+    let at-reply = c .before .before .before .before .before .before .before .before .before .before .before .before .before .before
+    .before .before .before .before .before .before .before .before .before .before .before .reply in
+    let at-counts-read = c .before .before .before .before .before .before .before .before .before .before .before .before .before .before
+    .before .before .before .before .before .before .before .before .before .before .counts-read in
+    let at-fill-tables = c .before .before .before .before .before .before .before .before .before .before .before .before .before .before
+    .before .fill-tables in
+    reads-by _ _ _ (at-reply .ensures) (at-counts-read .ensures) (at-fill-tables .ensures)
 
 pub read-spec : {M : Type 1} → statement M
 read-spec =
@@ -18,11 +28,32 @@ read-spec =
     (λ c κs. tt)
     fill-tables-requires
     (λ c. c .before .before .before .before .before .before .before .before .before .before .before .before .before .before .before .fill-tables .kept .1 .1 .0)
-    (λ c. c .before .before .before .before .before .before .before .before .before .before .before .before .before .before .before .fill-tables .kept .1 .1 .1 .0)
-    (λ c. c .before .before .before .before .before .before .before .before .before .before .before .before .before .before .before .fill-tables .kept .1 .1 .1 .1 .0)
-    (λ c. c .before .before .before .before .before .before .before .before .before .before .before .before .before .before .before .fill-tables .kept .1 .1 .1 .1 .1 .0)
-    (λ c. c .before .before .before .before .before .before .before .before .before .before .before .before .before .before .before .fill-tables .kept .1 .1 .1 .1 .1 .1 .0)
-    (λ c. c .before .before .before .before .before .before .before .before .before .before .before .before .before .before .before .fill-tables .kept .1 .1 .1 .1 .1 .1 .1 .0)
-    (λ c. c .before .before .before .before .before .before .before .before .before .before .before .before .before .before .before .fill-tables .kept .1 .1 .1 .1 .1 .1 .1 .1 .0)
-    (λ c. c .before .before .before .before .before .before .before .before .before .before .before .before .before .before .before .fill-tables .kept .1 .1 .1 .1 .1 .1 .1 .1 .1 .0)
+    (λ c.
+    let at-fill-tables = c .before .before .before .before .before .before .before .before .before .before .before .before .before .before
+    .before .fill-tables in
+    at-fill-tables .kept .1 .1 .1 .0)
+    (λ c.
+    let at-fill-tables = c .before .before .before .before .before .before .before .before .before .before .before .before .before .before
+    .before .fill-tables in
+    at-fill-tables .kept .1 .1 .1 .1 .0)
+    (λ c.
+    let at-fill-tables = c .before .before .before .before .before .before .before .before .before .before .before .before .before .before
+    .before .fill-tables in
+    at-fill-tables .kept .1 .1 .1 .1 .1 .0)
+    (λ c.
+    let at-fill-tables = c .before .before .before .before .before .before .before .before .before .before .before .before .before .before
+    .before .fill-tables in
+    at-fill-tables .kept .1 .1 .1 .1 .1 .1 .0)
+    (λ c.
+    let at-fill-tables = c .before .before .before .before .before .before .before .before .before .before .before .before .before .before
+    .before .fill-tables in
+    at-fill-tables .kept .1 .1 .1 .1 .1 .1 .1 .0)
+    (λ c.
+    let at-fill-tables = c .before .before .before .before .before .before .before .before .before .before .before .before .before .before
+    .before .fill-tables in
+    at-fill-tables .kept .1 .1 .1 .1 .1 .1 .1 .1 .0)
+    (λ c.
+    let at-fill-tables = c .before .before .before .before .before .before .before .before .before .before .before .before .before .before
+    .before .fill-tables in
+    at-fill-tables .kept .1 .1 .1 .1 .1 .1 .1 .1 .1 .0)
     returns)

@@ -13,11 +13,20 @@ returns c = answered-refused (c .before .before .before .before .before .told .g
 returns-2 : tie.Need-returns-2
 unfolding maxBytes
 returns-2 c =
-    answered-read (c .before .before .before .before .before .before .before .before .before .before .before .told2 .given .1) (answered-unmade _ (c .before .before .before .before .before .before .before .before .make-given .ensures) (omega arith) (c .before .before .before .before .before .reply .given .1) (c .before .before .print-unmade2 .ensures))
+    let at-told2 = c .before .before .before .before .before .before .before .before .before .before .before .told2 in
+    let at-make-given = c .before .before .before .before .before .before .before .before .make-given in
+    let at-reply = c .before .before .before .before .before .reply in
+    let at-print-unmade2 = c .before .before .print-unmade2 in
+    answered-read (at-told2 .given .1) (answered-unmade _ (at-make-given .ensures) (omega arith) (at-reply .given .1) (at-print-unmade2
+    .ensures))
 
 returns-3 : tie.Need-returns-3
 returns-3 c =
-    answered-read (c .before .before .before .before .before .before .before .before .before .before .before .before .told2 .given .1) (answered-made _ (c .before .before .before .before .before .before .before .before .before .make-given .ensures) (c .before .before .before .before .before .before .reply2 .given .1) (c .before .before .print-made .ensures))
+    let at-told2 = c .before .before .before .before .before .before .before .before .before .before .before .before .told2 in
+    let at-make-given = c .before .before .before .before .before .before .before .before .before .make-given in
+    let at-reply2 = c .before .before .before .before .before .before .reply2 in
+    let at-print-made = c .before .before .print-made in
+    answered-read (at-told2 .given .1) (answered-made _ (at-make-given .ensures) (at-reply2 .given .1) (at-print-made .ensures))
 
 pub answer-script-spec : {M : Type 1} → statement M
 answer-script-spec =

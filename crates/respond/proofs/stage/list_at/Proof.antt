@@ -14,11 +14,18 @@ returns c = listed-never (c .enum-told .given .1)
 
 returns-2 : tie.Need-returns-2
 returns-2 c =
-    listed-read (c .before .before .before .before .before .before .before .before .before .before .told .given .1) (lists-at (c .before .before .before .before .before .before .before .before .least .ensures) (c .before .before .before .before .before .before .list .ensures) (c .before .before .answer .given .1) (c .further .ensures))
+    let at-told = c .before .before .before .before .before .before .before .before .before .before .told in
+    let at-least = c .before .before .before .before .before .before .before .before .least in
+    let at-list = c .before .before .before .before .before .before .list in
+    let at-answer = c .before .before .answer in
+    listed-read (at-told .given .1) (lists-at (at-least .ensures) (at-list .ensures) (at-answer .given .1) (c .further .ensures))
 
 returns-3 : tie.Need-returns-3
 returns-3 c =
-    listed-read (c .before .before .before .before .before .before .before .before .told .given .1) (lists-never (c .before .before .before .before .before .before .least .ensures) (c .before .before .before .before .list .ensures) (c .enum-told2 .given .1))
+    let at-told = c .before .before .before .before .before .before .before .before .told in
+    let at-least = c .before .before .before .before .before .before .least in
+    let at-list = c .before .before .before .before .list in
+    listed-read (at-told .given .1) (lists-never (at-least .ensures) (at-list .ensures) (c .enum-told2 .given .1))
 
 pub list-at-spec : {M : Type 1} → statement M
 list-at-spec =
@@ -35,7 +42,19 @@ list-at-spec =
     (λ c κs. tt)
     (λ c. c .match2 .keys2)
     returns
-    (λ c. same-len-mid (c .before .before .before .before .before .before .before .before .least .result) (length (c .before .before .before .before .before .before .before .before .before .before .before .before .before .before .before .before .before .before .before .before .args .out .now) - c .before .before .before .before .before .before .before .before .least .result) (c .before .before .before .before .before .before .before .before .before .before .before .before .before .before .before .before .before .before .before .before .args .out .now) (c .before .before .before .before .before .before .list .last .1 .1 .1 .1 .1 .1 .1 .1 .1 .0) (c .before .before .before .before .before .before .list .kept .1 .1 .1 .1 .1 .1 .1 .1 .1 .0))
+    (λ c.
+    let at-least = c .before .before .before .before .before .before .before .before .least in
+    let at-args = c .before .before .before .before .before .before .before .before .before .before .before .before .before .before .before
+    .before .before .before .before .before .args in
+    let at-list = c .before .before .before .before .before .before .list in
+    same-len-mid (at-least .result) (length (at-args .out .now) - at-least .result) (at-args .out .now) (at-list .last .1 .1 .1 .1 .1 .1 .1
+    .1 .1 .0) (at-list .kept .1 .1 .1 .1 .1 .1 .1 .1 .1 .0))
     returns-2
-    (λ c. same-len-mid (c .before .before .before .before .before .before .least .result) (length (c .before .before .before .before .before .before .before .before .before .before .before .before .before .before .before .before .before .before .args .out .now) - c .before .before .before .before .before .before .least .result) (c .before .before .before .before .before .before .before .before .before .before .before .before .before .before .before .before .before .before .args .out .now) (c .before .before .before .before .list .last .1 .1 .1 .1 .1 .1 .1 .1 .1 .0) (c .before .before .before .before .list .kept .1 .1 .1 .1 .1 .1 .1 .1 .1 .0))
+    (λ c.
+    let at-least = c .before .before .before .before .before .before .least in
+    let at-args = c .before .before .before .before .before .before .before .before .before .before .before .before .before .before .before
+    .before .before .before .args in
+    let at-list = c .before .before .before .before .list in
+    same-len-mid (at-least .result) (length (at-args .out .now) - at-least .result) (at-args .out .now) (at-list .last .1 .1 .1 .1 .1 .1 .1
+    .1 .1 .0) (at-list .kept .1 .1 .1 .1 .1 .1 .1 .1 .1 .0))
     returns-3)

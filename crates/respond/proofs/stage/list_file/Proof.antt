@@ -12,7 +12,13 @@ use Rattle.respond.proofs.stage.list_file.Tie as tie
 returns : tie.Need-returns
 unfolding byteAt longEnough enough maxTypes maxInputs maxNodes
 returns c =
-    file-listed refl (c .before .before .before .before .before .before .before .before .before .before .before .before .before .before .before .before .before .before .before .before .read .ensures) (record { below = λ i. omega (arith, c .before .before .before .before .before .before .before .before .before .before .before .before .before .before .before .before .before .before .before .before .before .before .before .before .before .before .before .before .before .before .shared-slice-known .given i) }) (c .before .before .list-at .ensures)
+    let at-read = c .before .before .before .before .before .before .before .before .before .before .before .before .before .before .before
+    .before .before .before .before .before .read in
+    let at-shared-slice-known = c .before .before .before .before .before .before .before .before .before .before .before .before .before
+    .before .before .before .before .before .before .before .before .before .before .before .before .before .before .before .before .before
+    .shared-slice-known in
+    let at-list-at = c .before .before .list-at in
+    file-listed refl (at-read .ensures) (record { below = λ i. omega (arith, at-shared-slice-known .given i) }) (at-list-at .ensures)
 
 pub list-file-spec : {M : Type 1} → statement M
 list-file-spec =
@@ -32,9 +38,18 @@ list-file-spec =
     (λ c. sym (c .before .before .before .before .before .before .before .before .before .before .before .read .kept .1 .1 .1 .0))
     (λ c. sym (c .before .before .before .before .before .before .before .before .before .before .before .before .read .kept .1 .1 .1 .1 .0))
     (λ c. sym (c .before .before .before .before .before .before .before .before .before .before .before .before .before .read .kept .1 .1 .1 .1 .1 .0))
-    (λ c. sym (c .before .before .before .before .before .before .before .before .before .before .before .before .before .before .read .kept .1 .1 .1 .1 .1 .1 .0))
-    (λ c. sym (c .before .before .before .before .before .before .before .before .before .before .before .before .before .before .before .read .kept .1 .1 .1 .1 .1 .1 .1 .0))
-    (λ c. sym (c .before .before .before .before .before .before .before .before .before .before .before .before .before .before .before .before .read .kept .1 .1 .1 .1 .1 .1 .1 .1 .0))
+    (λ c.
+    let at-read = c .before .before .before .before .before .before .before .before .before .before .before .before .before .before .read
+    in
+    sym (at-read .kept .1 .1 .1 .1 .1 .1 .0))
+    (λ c.
+    let at-read = c .before .before .before .before .before .before .before .before .before .before .before .before .before .before .before
+    .read in
+    sym (at-read .kept .1 .1 .1 .1 .1 .1 .1 .0))
+    (λ c.
+    let at-read = c .before .before .before .before .before .before .before .before .before .before .before .before .before .before .before
+    .before .read in
+    sym (at-read .kept .1 .1 .1 .1 .1 .1 .1 .1 .0))
     (λ c κs. tt)
     (λ c. c .before .before .list-at .kept .1 .1 .1 .1 .1 .1 .1 .1 .1 .0)
     returns)

@@ -13,12 +13,16 @@ use Rattle.respond.proofs.stage.make_given.Tie as tie
 part-make-end : tie.Need-part-make-end
 unfolding programSettings maxInputs
 part-make-end c =
-    omega (arith, c .before .before .settings-given .ensures .0, given-most (c .before .before .before .before .before .before .before .before .before .before .before .before .before .args .rest .now), c .before .before .settings-given .kept)
+    let at-settings-given = c .before .before .settings-given in
+    let at-args = c .before .before .before .before .before .before .before .before .before .before .before .before .before .args in
+    omega (arith, at-settings-given .ensures .0, given-most (at-args .rest .now), at-settings-given .kept)
 
 returns : tie.Need-returns
 unfolding storesSuffice suffices programFuel maxInputs programSettings
 returns c =
-    makes-given _ _ (c .before .before .before .before .before .before .before .before .before .before .before .settings-given .ensures .0) (omega arith) (c .before .before .before .before .before .before .before .before .before .before .before .settings-given .ensures .1) refl (c .before .before .before .before .make .ensures)
+    let at-settings-given = c .before .before .before .before .before .before .before .before .before .before .before .settings-given in
+    let at-make = c .before .before .before .before .make in
+    makes-given _ _ (at-settings-given .ensures .0) (omega arith) (at-settings-given .ensures .1) refl (at-make .ensures)
 
 pub make-given-spec : {M : Type 1} → statement M
 make-given-spec =

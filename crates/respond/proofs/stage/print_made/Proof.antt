@@ -5,7 +5,12 @@ use Rattle.respond.proofs.stage.print_made.Statement.{statement}
 use Rattle.respond.proofs.stage.print_made.Tie as tie
 
 returns : tie.Need-returns
-returns c = made-printed (c .before .before .before .before .before .before .before .before .before .least .ensures) (c .before .before .before .before .before .before .before .before .before .before .file-size .ensures) (c .before .before .before .before .before .before .before .print-counts .kept .0) (c .before .before .before .before .before .before .before .print-counts .ensures) (c .before .before .list-file .ensures)
+returns c =
+    let at-least = c .before .before .before .before .before .before .before .before .before .least in
+    let at-file-size = c .before .before .before .before .before .before .before .before .before .before .file-size in
+    let at-print-counts = c .before .before .before .before .before .before .before .print-counts in
+    let at-list-file = c .before .before .list-file in
+    made-printed (at-least .ensures) (at-file-size .ensures) (at-print-counts .kept .0) (at-print-counts .ensures) (at-list-file .ensures)
 
 pub print-made-spec : {M : Type 1} → statement M
 print-made-spec =

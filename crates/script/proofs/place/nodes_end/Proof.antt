@@ -10,4 +10,5 @@ unfolding nodeOffset
 returns c = omega arith
 
 pub nodes-end-spec : {M : Type 1} → statement M
-nodes-end-spec = tie.close (tie.spec (λ c. search needs) (λ c. search needs) (λ c. search needs) (λ c. search needs) (λ c. search needs) (λ c. search needs) returns)
+nodes-end-spec = tie.close (tie.spec (λ c. search needs) (λ c. search needs) (λ c. search needs) (λ c. search needs) (λ c. search needs) (λ
+    c. search needs) returns)

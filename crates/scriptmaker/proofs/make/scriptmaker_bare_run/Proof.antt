@@ -5,7 +5,11 @@ use Rattle.scriptmaker.proofs.make.scriptmaker_bare_run.Statement.{stat
 use Rattle.scriptmaker.proofs.make.scriptmaker_bare_run.Tie as tie
 
 returns : tie.Need-returns
-returns c = makes _ _ _ _ _ _ _ _ _ _ _ _ (c .before .before .before .before .before .before .before .before .before .before .before .counted .ensures) (c .before .before .before .before .before .before .before .bare-run .ensures) (c .reply .ensures)
+returns c =
+    let at-counted = c .before .before .before .before .before .before .before .before .before .before .before .counted in
+    let at-bare-run = c .before .before .before .before .before .before .before .bare-run in
+    makes _ _ _ _ _ _ _ _ _ _ _ _ (at-counted .ensures) (at-bare-run .ensures) (c .reply .ensures)
 
 pub scriptmaker-bare-run-spec : {M : Type 1} → statement M
-scriptmaker-bare-run-spec = tie.close (tie.spec (λ c κs. search needs) (λ c κs. search needs) (λ c κs. search needs) (λ c. search needs) (λ c. search needs) (λ c. search needs) returns)
+scriptmaker-bare-run-spec = tie.close (tie.spec (λ c κs. search needs) (λ c κs. search needs) (λ c κs. search needs) (λ c. search needs) (λ
+    c. search needs) (λ c. search needs) returns)

@@ -5,7 +5,11 @@ use Rattle.scriptmaker.proofs.make.scriptmaker_make.Statement.{statemen
 use Rattle.scriptmaker.proofs.make.scriptmaker_make.Tie as tie
 
 returns : tie.Need-returns
-returns c = makes _ _ _ _ _ _ _ _ _ _ _ _ (c .before .before .before .before .before .before .before .before .before .before .before .counted .ensures) (c .before .before .before .before .before .before .before .make .ensures) (c .reply .ensures)
+returns c =
+    let at-counted = c .before .before .before .before .before .before .before .before .before .before .before .counted in
+    let at-make = c .before .before .before .before .before .before .before .make in
+    makes _ _ _ _ _ _ _ _ _ _ _ _ (at-counted .ensures) (at-make .ensures) (c .reply .ensures)
 
 pub scriptmaker-make-spec : {M : Type 1} → statement M
-scriptmaker-make-spec = tie.close (tie.spec (λ c κs. search needs) (λ c κs. search needs) (λ c κs. search needs) (λ c. search needs) (λ c. search needs) (λ c. search needs) returns)
+scriptmaker-make-spec = tie.close (tie.spec (λ c κs. search needs) (λ c κs. search needs) (λ c κs. search needs) (λ c. search needs) (λ c.
+    search needs) (λ c. search needs) returns)

@@ -5,7 +5,11 @@ use Rattle.scriptmaker.proofs.read.scriptmaker_read.Statement.{statemen
 use Rattle.scriptmaker.proofs.read.scriptmaker_read.Tie as tie
 
 returns : tie.Need-returns
-returns c = reads _ _ _ _ _ (c .before .before .before .before .before .before .before .before .before .before .before .before .before .before .before .before .read .ensures) (c .reply .ensures)
+returns c =
+    let at-read = c .before .before .before .before .before .before .before .before .before .before .before .before .before .before .before
+    .before .read in
+    reads _ _ _ _ _ (at-read .ensures) (c .reply .ensures)
 
 pub scriptmaker-read-spec : {M : Type 1} → statement M
-scriptmaker-read-spec = tie.close (tie.spec (λ c κs. search needs) (λ c κs. search needs) (λ c. search needs) (λ c. search needs) (λ c. search needs) (λ c. search needs) (λ c. search needs) (λ c. search needs) (λ c. search needs) (λ c. search needs) returns)
+scriptmaker-read-spec = tie.close (tie.spec (λ c κs. search needs) (λ c κs. search needs) (λ c. search needs) (λ c. search needs) (λ c.
+    search needs) (λ c. search needs) (λ c. search needs) (λ c. search needs) (λ c. search needs) (λ c. search needs) returns)

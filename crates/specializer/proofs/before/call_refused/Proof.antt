@@ -9,7 +9,9 @@ use Rattle.specializer.proofs.before.call_refused.Tie as tie
 
 returns : tie.Need-returns
 unfolding laterRefusal
-returns c = λ ks xs ys zs vs ok p ss l. told-first (c .before .before .before .annotation-by .ensures ks xs ys zs vs ok p) _ (c .before .f .given .1) (search needs)
+returns c =
+    let at-annotation-by = c .before .before .before .annotation-by in
+    λ ks xs ys zs vs ok p ss l. told-first (at-annotation-by .ensures ks xs ys zs vs ok p) _ (c .before .f .given .1) (search needs)
 
 returns-2 : tie.Need-returns-2
 unfolding laterRefusal tablesScript rowInput

@@ -12,12 +12,26 @@ use Rattle.streams.proofs.print.print_unmade.Tie as tie
 returns : tie.Need-returns
 unfolding unmadeText ascii
 returns c =
-    rw (lt-ltb (c .before .before .before .before .before .before .before .before .args .number) 20 (omega (arith, c .before .before .before .before .before .before .if1 .taken))) (prints-unmade true _ _ (omega (arith, c .before .before .before .before .before .before .before .before .fits .number)) (omega (arith, c .before .before .before .before .before .before .before .before .fits .place)) (c .before .before .print-pair .ensures))
+    let at-args = c .before .before .before .before .before .before .before .before .args in
+    let at-if1 = c .before .before .before .before .before .before .if1 in
+    let at-fits = c .before .before .before .before .before .before .before .before .fits in
+    let at-print-pair = c .before .before .print-pair in
+    rw (lt-ltb (at-args .number) 20 (omega (arith, at-if1 .taken))) (prints-unmade true _ _ (omega (arith, at-fits .number)) (omega (
+      arith,
+      at-fits .place,
+    )) (at-print-pair .ensures))
 
 returns-2 : tie.Need-returns-2
 unfolding unmadeText ascii
 returns-2 c =
-    rw (le-ltb (c .before .before .before .before .before .before .before .before .args .number) 20 (omega (arith, c .before .before .before .before .before .before .if1 .left))) (prints-unmade false _ _ (omega (arith, c .before .before .before .before .before .before .before .before .fits .number)) (omega (arith, c .before .before .before .before .before .before .before .before .fits .place)) (c .before .before .print-pair2 .ensures))
+    let at-args = c .before .before .before .before .before .before .before .before .args in
+    let at-if1 = c .before .before .before .before .before .before .if1 in
+    let at-fits = c .before .before .before .before .before .before .before .before .fits in
+    let at-print-pair2 = c .before .before .print-pair2 in
+    rw (le-ltb (at-args .number) 20 (omega (arith, at-if1 .left))) (prints-unmade false _ _ (omega (arith, at-fits .number)) (omega (
+      arith,
+      at-fits .place,
+    )) (at-print-pair2 .ensures))
 
 pub print-unmade-spec : {M : Type 1} → statement M
 print-unmade-spec =

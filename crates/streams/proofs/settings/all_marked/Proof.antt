@@ -35,7 +35,10 @@ loop-again c = search-goes-on _ (c .before .before .before .loop .inv) (c .befor
 
 returns : tie.Need-returns Inv-loop μ-loop
 unfolding isNone settingMarked
-returns c = ap isNone (search-finds _ (c .before .before .before .loop .inv) (c .before .before .loop-test .taken) (sym (c .before .marked .ensures) ∙ c .if1 .left))
+returns c =
+    let at-loop = c .before .before .before .loop in
+    let at-loop-test = c .before .before .loop-test in
+    ap isNone (search-finds _ (at-loop .inv) (at-loop-test .taken) (sym (c .before .marked .ensures) ∙ c .if1 .left))
 
 returns-2 : tie.Need-returns-2 Inv-loop μ-loop
 unfolding isNone

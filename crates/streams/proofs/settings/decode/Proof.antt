@@ -42,7 +42,12 @@ loop-less c = omega arith
 
 loop-again : tie.Need-loop-again Inv-loop μ-loop
 unfolding settingAt
-loop-again c = fill-goes-on _ (c .before .before .before .before .before .loop .inv) (c .before .before .before .before .loop-test .taken) (toZ-ofZ {w = w32} (record { sfits = c .before .before .before .value32 .ok }) ∙ c .before .before .before .value32 .ensures) (c .before .put32 .ensures)
+loop-again c =
+    let at-loop = c .before .before .before .before .before .loop in
+    let at-loop-test = c .before .before .before .before .loop-test in
+    let at-value32 = c .before .before .before .value32 in
+    fill-goes-on _ (at-loop .inv) (at-loop-test .taken) (toZ-ofZ {w = w32} (record { sfits = at-value32 .ok }) ∙ at-value32 .ensures) (c
+    .before .put32 .ensures)
 
 same-length : tie.Need-same-length Inv-loop μ-loop
 same-length c = fill-length _ (c .before .loop .inv)

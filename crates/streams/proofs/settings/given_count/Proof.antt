@@ -25,7 +25,10 @@ returns c =
 
 returns-2 : tie.Need-returns-2
 unfolding givenBy programSettings maxInputs
-returns-2 c = given-by _ (lt-ltb _ _ (c .before .before .before .if1 .taken)) (eq-eqb _ _ (c .before .before .if2 .taken)) (sym (c .before .all-marked .ensures) ∙ c .if3 .left)
+returns-2 c =
+    let at-if1 = c .before .before .before .if1 in
+    let at-if2 = c .before .before .if2 in
+    given-by _ (lt-ltb _ _ (at-if1 .taken)) (eq-eqb _ _ (at-if2 .taken)) (sym (c .before .all-marked .ensures) ∙ c .if3 .left)
 
 returns-3 : tie.Need-returns-3
 unfolding givenBy programSettings maxInputs

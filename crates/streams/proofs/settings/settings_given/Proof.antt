@@ -19,7 +19,9 @@ decode-requires c κs = (
 )
 
 returns-2 : tie.Need-returns-2
-returns-2 c = (c .before .before .before .before .given-count .ensures, given-decoded _ _ (c .before .before .before .before .given-count .ensures) (c .before .decode .ensures))
+returns-2 c =
+    let at-given-count = c .before .before .before .before .given-count in
+    (at-given-count .ensures, given-decoded _ _ (at-given-count .ensures) (c .before .decode .ensures))
 
 pub settings-given-spec : {M : Type 1} → statement M
 settings-given-spec =

@@ -24,8 +24,12 @@ returns-2 c =
 returns-3 : tie.Need-returns-3
 unfolding scriptLengthBy
 returns-3 c =
-    length-by _ (le-leb _ _ (c .before .before .before .before .before .if1 .left)) (sym (c .before .before .before .before .marked .ensures) ∙ c .before .before .before .if2 .taken)
-    (counts-told _ (c .before .before .head-counts .ensures) (c .before .counts-right .ensures) (c .if3 .left))
+    let at-if1 = c .before .before .before .before .before .if1 in
+    let at-marked = c .before .before .before .before .marked in
+    let at-if2 = c .before .before .before .if2 in
+    let at-head-counts = c .before .before .head-counts in
+    length-by _ (le-leb _ _ (at-if1 .left)) (sym (at-marked .ensures) ∙ at-if2 .taken) (counts-told _ (at-head-counts .ensures) (c .before
+    .counts-right .ensures) (c .if3 .left))
 
 returns-4 : tie.Need-returns-4
 unfolding scriptLengthBy

@@ -15,27 +15,53 @@ use Rattle.tables.proofs.content.content_refusal.Tie as tie
 first-bad-node-requires : tie.Need-first-bad-node-requires
 unfolding maxNodes
 first-bad-node-requires c κs =
-    let l = in-limits _ _ _ (sym (c .before .before .before .before .counts-right .ensures) ∙ c .before .before .before .if1 .taken) in
-    ((omega (arith, l .nodes), omega (arith, l .nodes, c .before .before .before .before .before .before .before .before .before .before .before .before .before .pre .1)), c .before .before .before .before .before .before .before .before .before .before .before .before .before .pre .0)
+    let at-counts-right = c .before .before .before .before .counts-right in
+    let at-if1 = c .before .before .before .if1 in
+    let at-pre = c .before .before .before .before .before .before .before .before .before .before .before .before .before .pre in
+    let l = in-limits _ _ _ (sym (at-counts-right .ensures) ∙ at-if1 .taken) in (
+      (
+        omega (arith, l .nodes),
+        omega (
+          arith,
+          l .nodes,
+          at-pre
+              .1,
+        ),
+      ),
+      at-pre .0,
+    )
 
 record-refusal-requires : tie.Need-record-refusal-requires
 unfolding maxTypes maxInputs maxNodes
 record-refusal-requires c κs =
-    let l = in-limits _ _ _ (sym (c .before .before .before .before .before .before .before .counts-right .ensures) ∙ c .before .before .before .before .before .before .if1 .taken) in (
-      found-below _ _ _ (c .before .before .before .before .before .first-bad-type .ensures) (omega (arith, l .types)),
+    let at-counts-right = c .before .before .before .before .before .before .before .counts-right in
+    let at-if1 = c .before .before .before .before .before .before .if1 in
+    let at-first-bad-type = c .before .before .before .before .before .first-bad-type in
+    let at-first-bad-input = c .before .before .before .before .first-bad-input in
+    let at-first-bad-node = c .before .before .first-bad-node in
+    let l = in-limits _ _ _ (sym (at-counts-right .ensures) ∙ at-if1 .taken) in (
+      found-below _ _ _ (at-first-bad-type .ensures) (omega
+          (arith, l .types)),
       (
-        found-below _ _ _ (c .before .before .before .before .first-bad-input .ensures) (omega (arith, l .inputs)),
-        found-below _ _ _ (c .before .before .first-bad-node .ensures .0) (omega (arith, l .nodes)),
+        found-below _ _ _ (at-first-bad-input .ensures) (omega (arith, l .inputs)),
+        found-below _ _ _ (at-first-bad-node
+            .ensures .0) (omega (arith, l .nodes)),
       ),
     )
 
 returns : tie.Need-returns
 unfolding rowType rowInput rowNode
-returns c = (
-  c .record-refusal .ensures
-      ∙ content-by-searches _ _ _ _ (sym (c .before .before .before .before .before .before .before .before .counts-right .ensures) ∙ c .before .before .before .before .before .before .before .if1 .taken) (c .before .before .before .before .before .before .first-bad-type .ensures) (c .before .before .before .before .before .first-bad-input .ensures) (c .before .before .before .first-bad-node .ensures .0),
-  packed-by-search _ _ _ _ _ (c .record-refusal .ensures) (c .before .before .before .first-bad-node .ensures .1),
-)
+returns c =
+    let at-counts-right = c .before .before .before .before .before .before .before .before .counts-right in
+    let at-if1 = c .before .before .before .before .before .before .before .if1 in
+    let at-first-bad-type = c .before .before .before .before .before .before .first-bad-type in
+    let at-first-bad-input = c .before .before .before .before .before .first-bad-input in
+    let at-first-bad-node = c .before .before .before .first-bad-node in (
+      c .record-refusal .ensures ∙ content-by-searches _ _ _ _ (sym (at-counts-right .ensures) ∙ at-if1 .taken) (at-first-bad-type
+          .ensures) (at-first-bad-input .ensures) (at-first-bad-node .ensures .0),
+      packed-by-search _ _ _ _ _ (c .record-refusal .ensures)
+          (at-first-bad-node .ensures .1),
+    )
 
 returns-2 : tie.Need-returns-2
 unfolding refusalOf

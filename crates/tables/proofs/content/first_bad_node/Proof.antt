@@ -56,39 +56,68 @@ mul-y : tie.Need-mul-y Inv-loop μ-loop
 mul-y c = in-word (c .before .before .loop-test .taken) (c .before .before .before .before .before .before .before .before .before .pre .0 .0) .two
 
 read-y : tie.Need-shared-slice-read-y Inv-loop μ-loop
-read-y c = lt-of-lt-of-le (c .before .before .before .loop-test .taken) (c .before .before .before .before .before .before .before .before .before .before .pre .1 .b)
+read-y c = lt-of-lt-of-le (c .before .before .before .loop-test .taken) (c .before .before .before .before .before .before .before .before
+    .before .before .pre .1 .b)
 
 mul-z : tie.Need-mul-z Inv-loop μ-loop
-mul-z c = in-word (c .before .before .before .loop-test .taken) (c .before .before .before .before .before .before .before .before .before .before .pre .0 .0) .two
+mul-z c =
+    let at-loop-test = c .before .before .before .loop-test in
+    let at-pre = c .before .before .before .before .before .before .before .before .before .before .pre in
+    in-word (at-loop-test .taken) (at-pre .0 .0) .two
 
 read-z : tie.Need-shared-slice-read-z Inv-loop μ-loop
-read-z c = lt-of-lt-of-le (c .before .before .before .before .loop-test .taken) (c .before .before .before .before .before .before .before .before .before .before .before .pre .1 .c)
+read-z c = lt-of-lt-of-le (c .before .before .before .before .loop-test .taken) (c .before .before .before .before .before .before .before
+    .before .before .before .before .pre .1 .c)
 
 mul-value : tie.Need-mul-value Inv-loop μ-loop
-mul-value c = in-word (c .before .before .before .before .loop-test .taken) (c .before .before .before .before .before .before .before .before .before .before .before .pre .0 .0) .four
+mul-value c =
+    let at-loop-test = c .before .before .before .before .loop-test in
+    let at-pre = c .before .before .before .before .before .before .before .before .before .before .before .pre in
+    in-word (at-loop-test .taken) (at-pre .0 .0) .four
 
 read-value : tie.Need-shared-slice-copy-out-value Inv-loop μ-loop
-read-value c = lt-of-lt-of-le (c .before .before .before .before .loop-test .taken) (c .before .before .before .before .before .before .before .before .before .before .before .pre .1 .values)
+read-value c = lt-of-lt-of-le (c .before .before .before .before .loop-test .taken) (c .before .before .before .before .before .before
+    .before .before .before .before .before .pre .1 .values)
 
 mul-words : tie.Need-mul-words Inv-loop μ-loop
-mul-words c = in-word (c .before .before .before .before .before .before .loop-test .taken) (c .before .before .before .before .before .before .before .before .before .before .before .before .before .pre .0 .0) .eight
+mul-words c =
+    let at-loop-test = c .before .before .before .before .before .before .loop-test in
+    let at-pre = c .before .before .before .before .before .before .before .before .before .before .before .before .before .pre in
+    in-word (at-loop-test .taken) (at-pre .0 .0) .eight
 
 write-words : tie.Need-slice-write-words Inv-loop μ-loop
-write-words c = omega (arith, c .before .before .before .before .before .before .before .loop .inv .1 .1, c .before .before .before .before .before .before .loop-test .taken, c .before .before .before .before .before .before .before .before .before .before .before .before .before .pre .0)
+write-words c =
+    let at-loop = c .before .before .before .before .before .before .before .loop in
+    let at-loop-test = c .before .before .before .before .before .before .loop-test in
+    let at-pre = c .before .before .before .before .before .before .before .before .before .before .before .before .before .pre in
+    omega (arith, at-loop .inv .1 .1, at-loop-test .taken, at-pre .0)
 
 add-j : tie.Need-add-j Inv-loop μ-loop
-add-j c = in-word (c .before .before .before .before .before .before .before .before .loop-test .taken) (c .before .before .before .before .before .before .before .before .before .before .before .before .before .before .before .pre .0 .0) .next
+add-j c =
+    let at-loop-test = c .before .before .before .before .before .before .before .before .loop-test in
+    let at-pre = c .before .before .before .before .before .before .before .before .before .before .before .before .before .before .before
+    .pre in
+    in-word (at-loop-test .taken) (at-pre .0 .0) .next
 
 loop-less : tie.Need-loop-less Inv-loop μ-loop
 loop-less c = omega (arith, c .before .before .before .before .before .before .before .before .loop-test .taken)
 
 loop-again : tie.Need-loop-again Inv-loop μ-loop
 loop-again c =
-    let v = toZ-ofZ {w = w32} (record { sfits = c .before .before .before .value .given }) in (
-      search-goes-on _ (c .before .before .before .before .before .before .before .before .before .loop .inv .0) (c .before .before .before .before .before .before .before .before .loop-test .taken) (node-told _ _ _ _ (c .before .node-right .ensures) refl refl refl refl v (c .if1 .taken)),
+    let at-value = c .before .before .before .value in
+    let at-loop = c .before .before .before .before .before .before .before .before .before .loop in
+    let at-loop-test = c .before .before .before .before .before .before .before .before .loop-test in
+    let at-pack-node = c .before .before .pack-node in
+    let at-pre = c .before .before .before .before .before .before .before .before .before .before .before .before .before .before .before
+    .pre in
+    let v = toZ-ofZ {w = w32} (record { sfits = at-value .given }) in (
+      search-goes-on _ (at-loop .inv .0) (at-loop-test .taken) (node-told
+          _ _ _ _ (c .before .node-right .ensures) refl refl refl refl v (c .if1 .taken)),
       (
-        packed-more (c .before .before .before .before .before .before .before .before .before .loop .inv .1 .0) (holds-row (c .before .before .pack-node .ensures) refl refl refl refl v) (omega (arith, c .before .before .before .before .before .before .before .before .before .loop .inv .1 .1, c .before .before .before .before .before .before .before .before .loop-test .taken, c .before .before .before .before .before .before .before .before .before .before .before .before .before .before .before .pre .0)),
-        simp length-set (c .before .before .before .before .before .before .before .before .before .loop .inv .1 .1),
+        packed-more (at-loop .inv .1 .0) (holds-row
+            (at-pack-node .ensures) refl refl refl refl v) (omega (arith, at-loop .inv .1 .1, at-loop-test .taken, at-pre .0)),
+        simp length-set
+            (at-loop .inv .1 .1),
       ),
     )
 
@@ -98,9 +127,16 @@ same-length c = simp length-set (c .before .before .before .before .before .befo
 returns : tie.Need-returns Inv-loop μ-loop
 unfolding foundAt
 returns c =
-    let v = toZ-ofZ {w = w32} (record { sfits = c .before .before .before .value .given }) in (
-      search-finds _ (c .before .before .before .before .before .before .before .before .before .loop .inv .0) (c .before .before .before .before .before .before .before .before .loop-test .taken) (node-told _ _ _ _ (c .before .node-right .ensures) refl refl refl refl v (c .if1 .left)),
-      record { all = λ e. let z : _≡_ {A = ℕ} 0 1 = cc in absurd (omega arith) },
+    let at-value = c .before .before .before .value in
+    let at-loop = c .before .before .before .before .before .before .before .before .before .loop in
+    let at-loop-test = c .before .before .before .before .before .before .before .before .loop-test in
+    let v = toZ-ofZ {w = w32} (record { sfits = at-value .given }) in (
+      search-finds _ (at-loop .inv .0) (at-loop-test .taken) (node-told _
+          _ _ _ (c .before .node-right .ensures) refl refl refl refl v (c .if1 .left)),
+      record {
+        all = λ e. let z : _≡_ {A = ℕ} 0 1 = cc in
+            absurd (omega arith);
+      },
     )
 
 same-length-2 : tie.Need-same-length-2 Inv-loop μ-loop

@@ -30,7 +30,11 @@ returns-2 c = rw (c .before .before .before .before .enum-told .given .1, c .bef
 
 returns-3 : tie.Need-returns-3
 unfolding refusalOf refusedRecord foundAt orElse
-returns-3 c = rw (c .before .before .before .before .before .before .enum-told .given .1, c .before .before .before .before .enum-told2 .given .1, c .before .before .bad-node .given .1, c .node-offset .ensures)
+returns-3 c =
+    let at-enum-told = c .before .before .before .before .before .before .enum-told in
+    let at-enum-told2 = c .before .before .before .before .enum-told2 in
+    let at-bad-node = c .before .before .bad-node in
+    rw (at-enum-told .given .1, at-enum-told2 .given .1, at-bad-node .given .1, c .node-offset .ensures)
 
 returns-4 : tie.Need-returns-4
 unfolding refusalOf refusedRecord foundAt orElse

@@ -5,13 +5,21 @@ use Rattle.tables.proofs.refusal.script_refusal.Statement.{statement}
 use Rattle.tables.proofs.refusal.script_refusal.Tie as tie
 
 returns : tie.Need-returns
-returns c = (refused-by-content _ _ _ _ _ _ _ _ _ _ _ (c .before .before .before .before .before .content-refusal .ensures .0) (c .before .f .given .1), not-packed)
+returns c =
+    let at-content-refusal = c .before .before .before .before .before .content-refusal in
+    (refused-by-content _ _ _ _ _ _ _ _ _ _ _ (at-content-refusal .ensures .0) (c .before .f .given .1), not-packed)
 
 returns-2 : tie.Need-returns-2
-returns-2 c = (
-  refused-by-structure _ _ _ _ _ _ _ _ _ _ _ (c .before .before .before .before .before .before .before .before .content-refusal .ensures .0) (c .before .before .before .before .enum-told .given .1) (c .before .before .before .before .before .before .before .before .content-refusal .ensures .1) (c .before .before .before .before .before .before .before .before .before .before .before .before .before .before .before .before .before .before .pre .1) _ (c .structure-refusal .ensures),
-  packed-by-content _ _ _ _ _ _ _ _ _ _ _ (c .before .before .before .before .before .before .before .before .content-refusal .ensures .0) (c .before .before .before .before .enum-told .given .1) (c .before .before .before .before .before .before .before .before .content-refusal .ensures .1) (c .before .before .before .before .before .before .before .before .before .before .before .before .before .before .before .before .before .before .pre .1) _,
-)
+returns-2 c =
+    let at-content-refusal = c .before .before .before .before .before .before .before .before .content-refusal in
+    let at-enum-told = c .before .before .before .before .enum-told in
+    let at-pre = c .before .before .before .before .before .before .before .before .before .before .before .before .before .before .before
+    .before .before .before .pre in (
+      refused-by-structure _ _ _ _ _ _ _ _ _ _ _ (at-content-refusal .ensures .0) (at-enum-told .given .1) (at-content-refusal .ensures .1)
+          (at-pre .1) _ (c .structure-refusal .ensures),
+      packed-by-content _ _ _ _ _ _ _ _ _ _ _ (at-content-refusal .ensures .0) (at-enum-told
+          .given .1) (at-content-refusal .ensures .1) (at-pre .1) _,
+    )
 
 content-refusal-requires : tie.Need-content-refusal-requires
 content-refusal-requires c κs = c .before .before .before .before .before .before .before .before .before .pre

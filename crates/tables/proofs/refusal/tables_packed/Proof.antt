@@ -18,7 +18,17 @@ returns c = (tells-by (c .before .before .packed-refusal .ensures .0), c .before
 
 returns-2 : tie.Need-returns-2
 returns-2 c =
-    (c .tables-refusal .ensures, record { nodes = λ e h. absurd (omega (arith, leb-false (min (c .before .before .before .before .before .before .before .before .before .before .before .args .n .nodes) maxNodes) (length (c .before .before .before .before .before .before .before .before .before .before .before .args .words .now)) (sym (c .before .before .enough-words .ensures) ∙ c .before .if1 .left))) })
+    let at-args = c .before .before .before .before .before .before .before .before .before .before .before .args in
+    let at-enough-words = c .before .before .enough-words in (
+      c .tables-refusal .ensures,
+      record {
+        nodes = λ e h. absurd (omega (
+          arith,
+          leb-false (min (at-args .n .nodes) maxNodes) (length
+              (at-args .words .now)) (sym (at-enough-words .ensures) ∙ c .before .if1 .left),
+        ));
+      },
+    )
 
 pub tables-packed-spec : {M : Type 1} → statement M
 tables-packed-spec =

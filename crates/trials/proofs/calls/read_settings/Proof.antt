@@ -15,7 +15,10 @@ abbrev μ-loop : tie.MeasureT-loop
 μ-loop «record» count settings₀ j₀ settings j = count - j
 
 loop-again : tie.Need-loop-again Inv-loop μ-loop
-loop-again c = (omega (arith, c .before .before .before .before .loop-test .taken), c .before .put32 .kept .0 ∙ c .before .before .before .before .before .loop .inv .1)
+loop-again c =
+    let at-loop-test = c .before .before .before .before .loop-test in
+    let at-loop = c .before .before .before .before .before .loop in
+    (omega (arith, at-loop-test .taken), c .before .put32 .kept .0 ∙ at-loop .inv .1)
 
 same-length : tie.Need-same-length Inv-loop μ-loop
 same-length c = c .before .loop .inv .1

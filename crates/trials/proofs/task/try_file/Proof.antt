@@ -21,9 +21,18 @@ try-file-spec =
     (λ c. sym (c .before .before .before .before .before .before .before .before .before .before .before .read .kept .1 .1 .1 .0))
     (λ c. sym (c .before .before .before .before .before .before .before .before .before .before .before .before .read .kept .1 .1 .1 .1 .0))
     (λ c. sym (c .before .before .before .before .before .before .before .before .before .before .before .before .before .read .kept .1 .1 .1 .1 .1 .0))
-    (λ c. sym (c .before .before .before .before .before .before .before .before .before .before .before .before .before .before .read .kept .1 .1 .1 .1 .1 .1 .0))
-    (λ c. sym (c .before .before .before .before .before .before .before .before .before .before .before .before .before .before .before .read .kept .1 .1 .1 .1 .1 .1 .1 .0))
-    (λ c. sym (c .before .before .before .before .before .before .before .before .before .before .before .before .before .before .before .before .read .kept .1 .1 .1 .1 .1 .1 .1 .1 .0))
+    (λ c.
+    let at-read = c .before .before .before .before .before .before .before .before .before .before .before .before .before .before .read
+    in
+    sym (at-read .kept .1 .1 .1 .1 .1 .1 .0))
+    (λ c.
+    let at-read = c .before .before .before .before .before .before .before .before .before .before .before .before .before .before .before
+    .read in
+    sym (at-read .kept .1 .1 .1 .1 .1 .1 .1 .0))
+    (λ c.
+    let at-read = c .before .before .before .before .before .before .before .before .before .before .before .before .before .before .before
+    .before .read in
+    sym (at-read .kept .1 .1 .1 .1 .1 .1 .1 .1 .0))
     (λ c κs. tt)
     (λ c. c .before .before .before .before .before .before .done .kept .1 .1 .1 .1 .1 .1 .1 .1 .1 .1 .1 .1 .0)
     (λ c. c .before .before .before .before .before .before .done .kept .1 .1 .1 .1 .1 .1 .1 .1 .1 .1 .1 .1 .1 .0)

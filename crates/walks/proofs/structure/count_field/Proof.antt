@@ -9,7 +9,11 @@ use Rattle.walks.proofs.structure.count_field.Tie as tie
 
 returns : tie.Need-returns
 unfolding keptIf occurrences
-returns c = rw (sym (c .before .before .before .before .before .is-child .ensures) ∙ c .before .before .before .before .if1 .taken) (c .before .before .count-one .ensures)
+returns c =
+    let at-is-child = c .before .before .before .before .before .is-child in
+    let at-if1 = c .before .before .before .before .if1 in
+    let at-count-one = c .before .before .count-one in
+    rw (sym (at-is-child .ensures) ∙ at-if1 .taken) (at-count-one .ensures)
 
 returns-2 : tie.Need-returns-2
 unfolding keptIf occurrences

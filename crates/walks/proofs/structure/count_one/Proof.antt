@@ -6,10 +6,17 @@ use Rattle.walks.proofs.structure.count_one.Statement.{statement}
 use Rattle.walks.proofs.structure.count_one.Tie as tie
 
 returns : tie.Need-returns
-returns c = rw (c .before .before .put8 .ensures, c .before .before .before .before .before .at8 .ensures) (counted-more (c .before .before .before .before .before .before .before .before .before .args .counts .now) (c .before .before .before .before .before .before .before .before .before .args .m .0))
+returns c =
+    let at-put8 = c .before .before .put8 in
+    let at-at8 = c .before .before .before .before .before .at8 in
+    let at-args = c .before .before .before .before .before .before .before .before .before .args in
+    rw (at-put8 .ensures, at-at8 .ensures) (counted-more (at-args .counts .now) (at-args .m .0))
 
 returns-2 : tie.Need-returns-2
-returns-2 c = counted-full (c .before .before .before .before .before .args .counts .now) (c .before .before .before .before .before .args .m .0) (omega (arith, c .before .at8 .ensures, c .if1 .left))
+returns-2 c =
+    let at-args = c .before .before .before .before .before .args in
+    counted-full (at-args .counts .now) (at-args .m .0) (omega (arith, c .before .at8 .ensures, c .if1 .left))
 
 pub count-one-spec : {M : Type 1} → statement M
-count-one-spec = tie.close (tie.spec (λ c. search needs) (λ c κs. tt) (λ c. search needs) (λ c κs. tt) (λ c. search needs) returns (λ c. search needs) returns-2)
+count-one-spec = tie.close (tie.spec (λ c. search needs) (λ c κs. tt) (λ c. search needs) (λ c κs. tt) (λ c. search needs) returns (λ c.
+    search needs) returns-2)

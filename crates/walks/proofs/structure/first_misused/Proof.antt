@@ -13,14 +13,16 @@ use Rattle.walks.proofs.structure.first_misused.Tie as tie
 returns : tie.Need-returns
 unfolding usedOnceAt
 returns c =
-    c .first-not-one .ensures
-    ∙ first-same _ _ 0 _ (λ j l. counted-once _ 128 _ (c .before .before .before .count-nodes .ensures) j (omega (arith, c .before .before .before .before .before .if1 .taken)))
+    let at-count-nodes = c .before .before .before .count-nodes in
+    let at-if1 = c .before .before .before .before .before .if1 in
+    c .first-not-one .ensures ∙ first-same _ _ 0 _ (λ j l. counted-once _ 128 _ (at-count-nodes .ensures) j (omega (arith, at-if1 .taken)))
 
 returns-2 : tie.Need-returns-2
 unfolding usedOnceAt maxNodes
 returns-2 c =
-    c .first-not-one2 .ensures
-    ∙ first-same _ _ 0 _ (λ j l. counted-once _ maxNodes _ (c .before .before .before .count-nodes2 .ensures) j (omega (arith, c .before .before .before .before .before .before .before .pre)))
+    let at-count-nodes2 = c .before .before .before .count-nodes2 in
+    let at-pre = c .before .before .before .before .before .before .before .pre in
+    c .first-not-one2 .ensures ∙ first-same _ _ 0 _ (λ j l. counted-once _ maxNodes _ (at-count-nodes2 .ensures) j (omega (arith, at-pre)))
 
 pub first-misused-spec : {M : Type 1} → statement M
 first-misused-spec =

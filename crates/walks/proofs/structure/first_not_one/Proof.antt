@@ -18,10 +18,16 @@ abbrev μ-loop : tie.MeasureT-loop
 
 returns : tie.Need-returns Inv-loop μ-loop
 unfolding foundAt
-returns c = search-finds _ (c .before .before .before .loop .inv) (c .before .before .loop-test .taken) (ne-eqb _ 1 (λ e. c .if1 .taken (c .before .at8 .ensures ∙ e)))
+returns c =
+    let at-loop = c .before .before .before .loop in
+    let at-loop-test = c .before .before .loop-test in
+    search-finds _ (at-loop .inv) (at-loop-test .taken) (ne-eqb _ 1 (λ e. c .if1 .taken (c .before .at8 .ensures ∙ e)))
 
 loop-again : tie.Need-loop-again Inv-loop μ-loop
-loop-again c = search-goes-on _ (c .before .before .before .loop .inv) (c .before .before .loop-test .taken) (eq-eqb _ 1 (sym (c .before .at8 .ensures) ∙ c .if1 .left))
+loop-again c =
+    let at-loop = c .before .before .before .loop in
+    let at-loop-test = c .before .before .loop-test in
+    search-goes-on _ (at-loop .inv) (at-loop-test .taken) (eq-eqb _ 1 (sym (c .before .at8 .ensures) ∙ c .if1 .left))
 
 returns-2 : tie.Need-returns-2 Inv-loop μ-loop
 unfolding foundAt

@@ -31,7 +31,11 @@ element-copy-out-if1 c = search needs
 
 loop-again : tie.Need-loop-again Inv-loop μ-loop
 loop-again c =
-    (omega arith, ⊎-elim (λ s. found-here _ _ _ (c .before .before .before .before .loop .inv .1) (s .0 .taken) (s .1)) (λ s. found-before _ _ _ (c .before .before .before .before .loop .inv .1) (s .0 .left) (s .1)) (c .if1 .came))
+    let at-loop = c .before .before .before .before .loop in (
+      omega arith,
+      ⊎-elim (λ s. found-here _ _ _ (at-loop .inv .1) (s .0 .taken) (s .1)) (λ s. found-before _ _ _ (at-loop .inv .1) (s .0
+          .left) (s .1)) (c .if1 .came),
+    )
 
 returns : tie.Need-returns Inv-loop μ-loop
 returns c = let e : c .before .loop .d ≡ c .before .before .args .depth = omega arith in rw (sym e) (c .before .loop .inv .1)

@@ -13,7 +13,9 @@ use Rattle.walks.proofs.structure.scope_refusal.Tie as tie
 
 scope-requires : tie.Need-scope-requires
 unfolding maxHeight
-scope-requires c κs = ((c .before .before .before .pre .0, omega (arith, length-replicate {A = ℕ} maxHeight 0)), omega (arith, c .before .before .before .pre .1))
+scope-requires c κs =
+    let at-pre = c .before .before .before .pre in
+    ((at-pre .0, omega (arith, length-replicate {A = ℕ} maxHeight 0)), omega (arith, at-pre .1))
 
 returns : tie.Need-returns
 unfolding innermost refusalOf refusedAt

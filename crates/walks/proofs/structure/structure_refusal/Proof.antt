@@ -24,9 +24,13 @@ first-misused-requires c κs = (omega (arith, c .before .if1 .left), omega (arit
 returns-3 : tie.Need-returns-3
 unfolding foundAt refusedAt orElse
 returns-3 c =
+    let at-first-misused = c .before .before .before .first-misused in
     record {
-      refusal = λ t x l m p fit.
-          c .tree-refusal .ensures ∙ sym (words-agree t _ _ x _ p fit l ∙ rw (sym (c .before .before .before .first-misused .ensures), c .before .enum-told .given .1));
+      refusal = λ t x l m p fit. c .tree-refusal .ensures ∙ sym (words-agree t _ _ x _ p fit l ∙ rw (
+        sym (at-first-misused
+            .ensures),
+        c .before .enum-told .given .1,
+      ));
     }
 
 returns-4 : tie.Need-returns-4
@@ -39,4 +43,5 @@ returns-4 c =
 
 pub structure-refusal-spec : {M : Type 1} → statement M
 structure-refusal-spec =
-    tie.close (tie.spec returns returns-2 (λ c. search needs) first-misused-requires (λ c. search needs) (λ c. search needs) (λ c κs. search needs) (λ c. search needs) returns-3 returns-4)
+    tie.close (tie.spec returns returns-2 (λ c. search needs) first-misused-requires (λ c. search needs) (λ c. search needs) (λ c κs.
+    search needs) (λ c. search needs) returns-3 returns-4)
