@@ -1,5 +1,3 @@
-pub mod Digits
-pub mod Writing
 pub mod Signs
 pub mod WordLaws
 pub mod NodeLaws

@@ -11,9 +11,9 @@ use Rattle.script.specs.declared.Row.{Row}
 use Rattle.script.specs.KindRows.{rowAt}
 use Rattle.lambdamix.proofs.Falling.{falling-step, below-at, below-out}
 use Rattle.printer.specs.declared.Word.{Word}
-use Rattle.printer.specs.Places.{Placed}
+use Rattle.text.specs.Places.{Placed}
 use Rattle.printer.specs.Nodes.{wordOf, wordText, framed, fieldText, nodeText, nodesText}
-use Rattle.printer.proofs.Writing.{join}
+use Rattle.text.proofs.Writing.{join}
 
 -- a child below its parent, and what stands for one that is not
 module _ (n : ℕ) (d : List ℕ) (f : ℕ → List ℕ) (m : ℕ) {at e : ℕ} {x y : List ℕ} where

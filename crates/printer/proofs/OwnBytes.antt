@@ -14,7 +14,7 @@ use Rattle.lambdamix.specs.Term.{operatorOf}
 use Rattle.lambdamix.specs.Listing.{nameBy, nameText, operatorText, formerText}
 use Rattle.script.specs.Kinds.{usesTable, useOf}
 use Rattle.printer.specs.Nodes.{words, wordOf, wordText, framed, fieldText, nodeText}
-use Rattle.printer.proofs.Digits.{digits-within}
+use Rattle.text.proofs.Digits.{digits-within}
 use Rattle.printer.proofs.WordLaws.{sign-text}
 
 -- the sum of a number for each of a list

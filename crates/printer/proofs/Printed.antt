@@ -23,7 +23,7 @@ use Rattle.script.proofs.Texts.{text-fits, text-short}
 use Rattle.printer.specs.Nodes.{nodesText, wholeText}
 use Rattle.printer.specs.ListCalls.{tablesText}
 use Rattle.printer.specs.NodeLists.{Lists}
-use Rattle.printer.specs.Places.{Placed, most}
+use Rattle.text.specs.Places.{Placed, most}
 use Rattle.printer.proofs.Trees.{tree-text}
 
 -- ---- the text

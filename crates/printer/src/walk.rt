@@ -1,12 +1,7 @@
 // The listing of a script: a walk of its tree by recursion on falling node numbers. Every kind is written in the same way: a
 // bracket, its word, its fields by the table of uses, a bracket; kinds without a word stand bare. Each function is lent what
 // remains of the output from its place on, writes its text at the front of that, and gives the text's length.
-use crate::Part;
 use crate::Word;
-use crate::parts::further;
-use crate::parts::least;
-use crate::parts::part_at;
-use crate::parts::put_part;
 use crate::words;
 use lambdamix::Use;
 use script::Counts;
@@ -16,9 +11,14 @@ use script::Row;
 use script::column;
 use script::kinds::own_row;
 use script::place::root;
+use text::Part;
+use text::parts::further;
+use text::parts::least;
+use text::parts::part_at;
+use text::parts::put_part;
 ghost use mathlib.Core.List.{_++_};
 ghost use Rattle.lambdamix.specs.Listing.{nameText};
-ghost use Rattle.printer.specs.Places.{Placed};
+ghost use Rattle.text.specs.Places.{Placed};
 ghost use Rattle.printer.specs.Nodes.{framed, wordText, fieldText, columnText, childText, wholeText};
 
 // A bracket or a space, for a word in brackets.

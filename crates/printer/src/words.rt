@@ -1,13 +1,13 @@
 // The words of the kinds, names and signed decimals, as parts of a listing. Static and dynamic kinds have the same words.
-use crate::Part;
 use crate::Word;
 use script::Name;
+use text::Part;
 ghost use mathlib.Core.Path.{_≡_};
 ghost use mathlib.Core.List.{[], _∷_};
 ghost use Rattle.lambdamix.specs.Term.{operatorOf};
 ghost use Rattle.lambdamix.specs.Text.{decimal};
 ghost use Rattle.lambdamix.specs.Listing.{nameText, operatorText};
-ghost use Rattle.printer.specs.Parts.{partText};
+ghost use Rattle.text.specs.Parts.{partText};
 ghost use Rattle.printer.specs.Nodes.{wordOf, wordText, framed};
 
 const WORDS: [Word; 13] = [

@@ -26,7 +26,7 @@ use Rattle.script.proofs.Sound.{in-limits}
 use Rattle.reading.proofs.FillLaws.{file-held, filled-long}
 use Rattle.file.proofs.FileLaws.{read-fits, script-counts, script-passes}
 use Rattle.printer.specs.ListCalls.{tablesText}
-use Rattle.printer.proofs.Writing.{join}
+use Rattle.text.proofs.Writing.{join}
 use Rattle.printer.proofs.ListingBound.{listing-bytes}
 use Rattle.respond.specs.Stages.{listingBytes, ListsAt, ListsReading, ListsFile, PrintsMade, Held}
 use Rattle.streams.specs.Printed.{linesBytes, CountsPlaced}

@@ -14,9 +14,9 @@ use Rattle.script.specs.Verdicts.{writing}
 use Rattle.script.proofs.ReplyLaws.{written-answer}
 use Rattle.script.specs.declared.Writing.{Writing}
 use Rattle.script.specs.declared.Writing.the-variants.{Written, Refused}
-use Rattle.printer.specs.Places.{Put, most}
+use Rattle.text.specs.Places.{Put, most}
 use Rattle.printer.specs.ListCalls.{tablesText, listRefusal, ListsTables}
-use Rattle.printer.proofs.Writing.{placed}
+use Rattle.text.proofs.Writing.{placed}
 use Rattle.respond.specs.Stages.{ListsAt}
 
 no-refusal :

@@ -22,7 +22,7 @@ use Rattle.script.specs.Replies.{headCounts}
 use Rattle.file.specs.Encodable.{AllBytes}
 use Rattle.script.specs.Tables.{Tables, longEnough, over, writtenOutput}
 use Rattle.script.specs.Replies.{Reads}
-use Rattle.printer.specs.Places.{most}
+use Rattle.text.specs.Places.{most}
 use Rattle.script.proofs.Rows.{everywhere}
 use Rattle.respond.specs.declared.Response.the-variants.{Printed, Refused}
 use Rattle.respond.specs.Response.{inputReply, replyTo, replyText, response}

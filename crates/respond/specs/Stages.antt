@@ -19,7 +19,7 @@ use Rattle.script.specs.Refusals.{fileRefusal}
 use Rattle.script.specs.Replies.{headCounts}
 use Rattle.file.specs.Encodable.{AllBytes}
 use Rattle.script.specs.Tables.{Tables, tablesScript, tablesRefusal, longEnough}
-use Rattle.printer.specs.Places.{Placed}
+use Rattle.text.specs.Places.{Placed}
 use Rattle.printer.specs.ListCalls.{tablesText}
 use Rattle.specializer.specs.declared.Reply.{Reply}
 use Rattle.machine.specs.Room.{Stores, storesSuffice}

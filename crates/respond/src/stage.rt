@@ -3,9 +3,8 @@ use crate::limits::CODES;
 use crate::limits::FUEL;
 use crate::limits::HEAP;
 use crate::limits::MAX_BYTES;
+use lambdamix::Mode;
 use printer::list::list;
-use printer::parts::further;
-use printer::parts::least;
 use reading::reader::read;
 use script::Counts;
 use script::Reading;
@@ -20,6 +19,8 @@ use streams::limits::SETTINGS;
 use streams::print::print_counts;
 use streams::print::print_unmade;
 use streams::settings::settings_given;
+use text::parts::further;
+use text::parts::least;
 ghost use Rattle.script.specs.Tables.{tablesOf};
 ghost use Rattle.respond.specs.Stages.{MakesGiven, ListsReading, ListsFile, PrintsMade, AnswersReading};
 
@@ -45,6 +46,7 @@ fn make_given(
     let mut heap = [0u64; HEAP];
     let mut codes = [0u64; CODES];
     make(
+        Mode::Making,
         n,
         parameters,
         results,

@@ -2,8 +2,8 @@
 use crate::Counts;
 use crate::MakeReply;
 use crate::counted;
+use lambdamix::Mode;
 use specializer::Reply;
-use specializer::make::bare_run;
 use specializer::make::make;
 ghost use mathlib.Core.Path.{_≡_};
 ghost use Rattle.script.specs.Tables.{tablesOf};
@@ -51,6 +51,7 @@ pub extern "C" fn scriptmaker_make(
         (now (settings .entry)) fuel (stores (now (heap .entry)) (now (codes .entry))) (stores (now (heap .exit)) (now (codes .exit))) (now (out .entry)) (now (out .exit)) r ⌝ }
 {
     reply(make(
+        Mode::Making,
         counted(n),
         parameters,
         results,
@@ -89,7 +90,8 @@ pub extern "C" fn scriptmaker_bare_run(
     ensures { λ r. ⌜ Makes Mode.BareRun n (tablesOf (now (parameters .entry)) (now (results .entry)) (now (inputs .entry)) (now (kinds .entry)) (now (a .entry)) (now (b .entry)) (now (c .entry)) (now (values .entry)))
         (now (settings .entry)) fuel (stores (now (heap .entry)) (now (codes .entry))) (stores (now (heap .exit)) (now (codes .exit))) (now (out .entry)) (now (out .exit)) r ⌝ }
 {
-    reply(bare_run(
+    reply(make(
+        Mode::BareRun,
         counted(n),
         parameters,
         results,
@@ -106,5 +108,3 @@ pub extern "C" fn scriptmaker_bare_run(
         out,
     ))
 }
-
-use lambdamix::Mode;

@@ -7,9 +7,9 @@ use native.Mathlib.Omega.{arith}
 use lib.ListN.{length, length-append}
 use Rattle.lambdamix.specs.Limits.{maxBytes}
 use Rattle.lambdamix.specs.Text.{ascii, digits}
-use Rattle.printer.specs.Places.{Placed}
-use Rattle.printer.proofs.Digits.{digits-within}
-use Rattle.printer.proofs.Writing.{join}
+use Rattle.text.specs.Places.{Placed}
+use Rattle.text.proofs.Digits.{digits-within}
+use Rattle.text.proofs.Writing.{join}
 use Rattle.streams.specs.Lines.{pairText, unmadeText, countsText}
 use Rattle.streams.specs.Printed.{linesBytes, Prints, CountsPlaced}
 

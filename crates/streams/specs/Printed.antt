@@ -3,7 +3,7 @@ use Prim.Native.Nat.{ℕ, _≤_}
 use mathlib.Core.List.{List}
 use lib.ListN.{length}
 use Rattle.lambdamix.specs.Limits.{maxBytes}
-use Rattle.printer.specs.Places.{Placed}
+use Rattle.text.specs.Places.{Placed}
 use Rattle.streams.specs.Lines.{countsText}
 
 -- a text that fits is printed

@@ -1,9 +1,9 @@
 // The lines that are printed. Each part is written into what remains of the lent output.
-use printer::Part;
-use printer::parts::part_at;
-use printer::parts::text_at;
+use text::Part;
+use text::parts::part_at;
+use text::parts::text_at;
 ghost use lib.Dec.{ltb};
-ghost use Rattle.printer.specs.Places.{Placed};
+ghost use Rattle.text.specs.Places.{Placed};
 ghost use Rattle.streams.specs.Lines.{pairText, unmadeText};
 ghost use Rattle.streams.specs.Printed.{CountsPlaced, Prints};
 

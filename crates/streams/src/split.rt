@@ -1,9 +1,9 @@
 // Where the script ends in an input and the settings begin.
-use printer::parts::least;
 use reading::marks::marked;
 use reading::reader::head_counts;
 use script::limits::counts_right;
 use script::place::file_size;
+use text::parts::least;
 ghost use mathlib.Core.Path.{_≡_};
 ghost use Prim.Native.Nat.{min};
 ghost use lib.ListN.{length};

@@ -4,6 +4,7 @@
 use crate::print;
 use crate::task::Task;
 use crate::task::try_file;
+use lambdamix::Mode;
 use machine::limits::MAX_FUEL;
 use reading::bytes;
 use respond::limits::MAX_BYTES;
@@ -75,9 +76,9 @@ fn read_settings(record: &[u8], count: u16, settings: &mut [i32]) {
 
 fn task_of(record: &[u8]) -> Task {
     if column::at8(record, 0) == 1 {
-        return Task::Bare;
+        return Task::Make(Mode::BareRun);
     }
-    Task::Make
+    Task::Make(Mode::Making)
 }
 
 fn try_split(

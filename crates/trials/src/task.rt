@@ -1,5 +1,6 @@
 // A script file through the reader and, if it is read, through the checker or the maker.
 use annotation::check::check;
+use lambdamix::Mode;
 use reading::reader::read;
 use script::Reading;
 use script::Verdict;
@@ -7,14 +8,12 @@ use script::limits::MAX_INPUTS;
 use script::limits::MAX_NODES;
 use script::limits::MAX_TYPES;
 use specializer::Reply;
-use specializer::make::bare_run;
 use specializer::make::make;
 
-// What a script that was read goes through: the checker, the maker, or the maker's bare run.
+// What a script that was read goes through: the checker, or the maker.
 pub(crate) enum Task {
     Check,
-    Make,
-    Bare,
+    Make(Mode),
 }
 
 // Of a script that is only checked nothing is made, in no step.
@@ -46,23 +45,8 @@ fn done(
         Reading::Refused(f) => Reply::Unmade(f, 0),
         Reading::Read(n) => match task {
             Task::Check => checked(check(n, parameters, results, inputs, kinds, a, b, c, values)),
-            Task::Make => make(
-                n,
-                parameters,
-                results,
-                inputs,
-                kinds,
-                a,
-                b,
-                c,
-                values,
-                settings,
-                fuel,
-                heap,
-                codes,
-                out,
-            ),
-            Task::Bare => bare_run(
+            Task::Make(mode) => make(
+                mode,
                 n,
                 parameters,
                 results,

@@ -16,9 +16,9 @@ unfolding maxTypes maxInputs maxHeight
 returns c =
     let at-pack-types = c .before .before .before .before .before .before .before .before .before .before .before .pack-types in
     let at-bind-inputs = c .before .before .before .before .before .before .before .before .bind-inputs in
-    let at-root = c .before .before .before .before .before .before .root in
+    let at-root-read = c .before .before .before .before .before .before .root in
     at-root (at-pack-types .ensures refl) (λ l. at-bind-inputs .ensures (omega (arith, length-replicate {A = ℕ} stackPlaces 0))) (omega
-    (arith, at-bind-inputs .kept, length-replicate {A = ℕ} stackPlaces 0)) (at-root .ensures) (c .before .node .ensures) (c .verdict
+    (arith, at-bind-inputs .kept, length-replicate {A = ℕ} stackPlaces 0)) (at-root-read .ensures) (c .before .node .ensures) (c .verdict
     .ensures)
 
 pub annotation-refusal-spec : {M : Type 1} → statement M

@@ -7,7 +7,7 @@ use mir.Facts.{toZ-ofZ}
 use Prim.Native.Nat.{ℕ, _+_, _*_, _<_}
 use Rattle.script.specs.Columns.{nodesIn}
 use Rattle.printer.specs.Nodes.{fieldText}
-use Rattle.printer.proofs.Writing.{stays, join, at-front, placed-rest}
+use Rattle.text.proofs.Writing.{stays, join, at-front, placed-rest}
 use Rattle.printer.proofs.NodeLaws.{child-placed, no-child-placed, node-placed}
 use borrow.Fn.Kinds.{In}
 use borrow.Fn.PlainCycle.{Measures, is, falls, and}
@@ -26,10 +26,10 @@ use Rattle.printer.proofs.walk.+child+child_at+field+field_at+node.Lts-
 use Rattle.printer.proofs.walk.node.Reads as node
 use Rattle.printer.proofs.walk.node.Kinds as node-kinds
 use Rattle.printer.proofs.walk.+child+child_at+field+field_at+node.Lts-node as node-lts
-use Rattle.printer.proofs.parts.further.Reads as further-reads
-use Rattle.printer.proofs.parts.least.Reads as least-reads
-use Rattle.printer.proofs.parts.part_at.Reads as part-at-reads
-use Rattle.printer.proofs.parts.put_part.Reads as put-part-reads
+use Rattle.text.proofs.parts.further.Reads as further-reads
+use Rattle.text.proofs.parts.least.Reads as least-reads
+use Rattle.text.proofs.parts.part_at.Reads as part-at-reads
+use Rattle.text.proofs.parts.put_part.Reads as put-part-reads
 use Rattle.printer.proofs.walk.put_frame.Reads as put-frame-reads
 use Rattle.printer.proofs.walk.put_head.Reads as put-head-reads
 use Rattle.printer.proofs.walk.put_name.Reads as put-name-reads

@@ -1,7 +1,7 @@
 -- `printer::walk::put_frame` meets its contract. Assumes nothing.
 use borrow.Author.Needs.{needs}
 use native.Mathlib.Omega.{arith}
-use Rattle.printer.proofs.Writing.{at-front}
+use Rattle.text.proofs.Writing.{at-front}
 use Rattle.printer.proofs.walk.put_frame.Statement.{statement}
 use Rattle.printer.proofs.walk.put_frame.Tie as tie
 

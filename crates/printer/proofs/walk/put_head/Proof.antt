@@ -2,7 +2,7 @@
 use mathlib.Core.Path.{ap, _∙_}
 use mir.Facts.{toZ-ofZ}
 use Rattle.printer.specs.Nodes.{wordText}
-use Rattle.printer.proofs.Writing.{join}
+use Rattle.text.proofs.Writing.{join}
 use borrow.Author.Needs.{needs}
 use Rattle.printer.proofs.walk.put_head.Statement.{statement}
 use Rattle.printer.proofs.walk.put_head.Tie as tie

@@ -1,5 +1,5 @@
 -- `printer::walk::put_name` meets its contract. Assumes nothing.
-use Rattle.printer.proofs.Writing.{join}
+use Rattle.text.proofs.Writing.{join}
 use borrow.Author.Needs.{needs}
 use Rattle.printer.proofs.walk.put_name.Statement.{statement}
 use Rattle.printer.proofs.walk.put_name.Tie as tie

@@ -1,5 +1,5 @@
 -- `printer::walk::whole` meets its contract. Assumes nothing.
-use Rattle.printer.proofs.Writing.{join}
+use Rattle.text.proofs.Writing.{join}
 use borrow.Author.Needs.{needs}
 use Rattle.printer.proofs.walk.whole.Statement.{statement}
 use Rattle.printer.proofs.walk.whole.Tie as tie

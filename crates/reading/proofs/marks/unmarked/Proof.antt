@@ -17,15 +17,15 @@ abbrev μ-loop : tie.MeasureT-loop
 μ-loop file first stride count x y j₀ j = count - j
 
 -- what is told of a record's mark is told at its place
-at-place : (x y : ℕ) (file : List ℕ) {at o : ℕ} {b r : Bool} → at ≡ o → b ≡ marked x y file at → b ≡ r → marked x y file o ≡ r
-at-place x y file p e h = ap (marked x y file) (sym p) ∙ sym e ∙ h
+mark-told : (x y : ℕ) (file : List ℕ) {at o : ℕ} {b r : Bool} → at ≡ o → b ≡ marked x y file at → b ≡ r → marked x y file o ≡ r
+mark-told x y file p e h = ap (marked x y file) (sym p) ∙ sym e ∙ h
 
 loop-again : tie.Need-loop-again Inv-loop μ-loop
 loop-again c =
     let at-loop = c .before .before .before .before .loop in
     let at-loop-test = c .before .before .before .loop-test in
     let at-place = c .before .before .place in
-    search-goes-on _ (at-loop .inv) (at-loop-test .taken) (at-place _ _ _ (at-place .ensures) (c .before .marked .ensures) (c .if1 .taken))
+    search-goes-on _ (at-loop .inv) (at-loop-test .taken) (mark-told _ _ _ (at-place .ensures) (c .before .marked .ensures) (c .if1 .taken))
 
 returns : tie.Need-returns Inv-loop μ-loop
 unfolding refusalOf refusedRecord
@@ -35,7 +35,7 @@ returns c =
     let at-loop-test = c .before .before .before .loop-test in
     rw (
       at-place .ensures,
-      ← search-finds _ (at-loop .inv) (at-loop-test .taken) (at-place _ _ _ (at-place .ensures) (c .before .marked
+      ← search-finds _ (at-loop .inv) (at-loop-test .taken) (mark-told _ _ _ (at-place .ensures) (c .before .marked
           .ensures) (c .if1 .left)),
     )
 

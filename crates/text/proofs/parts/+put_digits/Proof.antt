@@ -1,17 +1,17 @@
--- `printer::parts::put_digits` meets its contract, and ends: the number falls to its tenth. Assumes nothing.
+-- `text::parts::put_digits` meets its contract, and ends: the number falls to its tenth. Assumes nothing.
 use borrow.Author.Needs.{needs}
 use Prim.Native.Nat.{ℕ, _+_, _/_, _%_, _<_}
 use native.Mathlib.Omega.{arith}
 use borrow.Fn.Kinds.{In}
 use borrow.Fn.PlainCycle.{Measures, is, falls, and}
-use Rattle.printer.proofs.Digits.{one-digit, last-digit, digits-within}
-use Rattle.printer.proofs.Writing.{put-none, put-last}
-use Rattle.printer.proofs.parts.put_digits.Reads as put-digits
-use Rattle.printer.proofs.parts.put_digits.Kinds as put-digits-kinds
-use Rattle.printer.proofs.parts.+put_digits.Lts-put_digits as put-digits-lts
+use Rattle.text.proofs.Digits.{one-digit, last-digit, digits-within}
+use Rattle.text.proofs.Writing.{put-none, put-last}
+use Rattle.text.proofs.parts.put_digits.Reads as put-digits
+use Rattle.text.proofs.parts.put_digits.Kinds as put-digits-kinds
+use Rattle.text.proofs.parts.+put_digits.Lts-put_digits as put-digits-lts
 use Rattle.script.proofs.column.put8.Reads as put8-reads
-use Rattle.printer.proofs.parts.+put_digits.{statement}
-use Rattle.printer.proofs.parts.+put_digits.Tie.{close}
+use Rattle.text.proofs.parts.+put_digits.{statement}
+use Rattle.text.proofs.parts.+put_digits.Tie.{close}
 
 abbrev μ-put-digits : Measures 1 put-digits-kinds.ps ℕ
 μ-put-digits κs a = a .1 .0

@@ -6,8 +6,8 @@ ghost use mathlib.Core.Path.{_≡_};
 ghost use Prim.Native.Nat.{_+_, min};
 ghost use mathlib.Core.List.{[], _∷_};
 ghost use Rattle.lambdamix.specs.Text.{digits};
-ghost use Rattle.printer.specs.Places.{Put, Placed, most};
-ghost use Rattle.printer.specs.Parts.{partText};
+ghost use Rattle.text.specs.Places.{Put, Placed, most};
+ghost use Rattle.text.specs.Parts.{partText};
 
 // Counts stop here; no output is as long.
 const MOST: usize = 18446744073709551615;

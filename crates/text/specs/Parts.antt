@@ -2,8 +2,8 @@
 use Prim.Native.Nat.{ℕ}
 use mathlib.Core.List.{List, [], _∷_}
 use Rattle.lambdamix.specs.Text.{ascii, digits}
-use Rattle.printer.specs.declared.Part.{Part}
-use Rattle.printer.specs.declared.Part.the-variants as Part
+use Rattle.text.specs.declared.Part.{Part}
+use Rattle.text.specs.declared.Part.the-variants as Part
 
 abbrev pub partText : Part → List ℕ
 partText Part.Nothing = []

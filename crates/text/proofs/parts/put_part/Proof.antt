@@ -1,9 +1,9 @@
--- `printer::parts::put_part` meets its contract: each variant's writer puts its text. Assumes nothing.
+-- `text::parts::put_part` meets its contract: each variant's writer puts its text. Assumes nothing.
 use borrow.Author.Needs.{needs}
 use Rattle.lambdamix.specs.Text.{ascii}
-use Rattle.printer.proofs.Writing.{put-none}
-use Rattle.printer.proofs.parts.put_part.Statement.{statement}
-use Rattle.printer.proofs.parts.put_part.Tie as tie
+use Rattle.text.proofs.Writing.{put-none}
+use Rattle.text.proofs.parts.put_part.Statement.{statement}
+use Rattle.text.proofs.parts.put_part.Tie as tie
 
 pub put-part-spec : {M : Type 1} → statement M
 unfolding ascii

@@ -1,13 +1,13 @@
--- `printer::parts::put_text` meets its contract. The loop's invariant: the bytes passed stand at the front. The measure is what
+-- `text::parts::put_text` meets its contract. The loop's invariant: the bytes passed stand at the front. The measure is what
 -- is left of the text. Assumes nothing.
 use borrow.Author.Needs.{needs}
 use Prim.Native.Nat.{_-_, _≤_}
 use mathlib.Core.Path.{_≡_, _∙_}
 use lib.ListN.{length, take}
-use Rattle.printer.specs.Places.{Put}
-use Rattle.printer.proofs.Writing.{put-none, put-next, put-whole}
-use Rattle.printer.proofs.parts.put_text.Statement.{statement}
-use Rattle.printer.proofs.parts.put_text.Tie as tie
+use Rattle.text.specs.Places.{Put}
+use Rattle.text.proofs.Writing.{put-none, put-next, put-whole}
+use Rattle.text.proofs.parts.put_text.Statement.{statement}
+use Rattle.text.proofs.parts.put_text.Tie as tie
 
 abbrev Inv-loop : tie.InvT-loop
 Inv-loop out₀ text i₀ out i = (i ≤ length text) × (length out ≡ length out₀) × Put (take i text) out₀ out i

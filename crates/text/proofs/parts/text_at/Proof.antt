@@ -1,8 +1,8 @@
--- `printer::parts::text_at` meets its contract. Assumes nothing.
+-- `text::parts::text_at` meets its contract. Assumes nothing.
 use borrow.Author.Needs.{needs}
-use Rattle.printer.proofs.Writing.{placed}
-use Rattle.printer.proofs.parts.text_at.Statement.{statement}
-use Rattle.printer.proofs.parts.text_at.Tie as tie
+use Rattle.text.proofs.Writing.{placed}
+use Rattle.text.proofs.parts.text_at.Statement.{statement}
+use Rattle.text.proofs.parts.text_at.Tie as tie
 
 returns : tie.Need-returns
 returns c = placed (c .before .before .before .before .before .least .ensures) (c .before .before .before .put-text .ensures) (c .further .ensures)

@@ -1,10 +1,10 @@
--- `printer::parts::put_prefixed` meets its contract. Assumes nothing.
+-- `text::parts::put_prefixed` meets its contract. Assumes nothing.
 use borrow.Author.Needs.{needs}
 use native.Mathlib.Omega.{arith}
-use Rattle.printer.proofs.Digits.{digits-within}
-use Rattle.printer.proofs.Writing.{put-behind}
-use Rattle.printer.proofs.parts.put_prefixed.Statement.{statement}
-use Rattle.printer.proofs.parts.put_prefixed.Tie as tie
+use Rattle.text.proofs.Digits.{digits-within}
+use Rattle.text.proofs.Writing.{put-behind}
+use Rattle.text.proofs.parts.put_prefixed.Statement.{statement}
+use Rattle.text.proofs.parts.put_prefixed.Tie as tie
 
 returns : tie.Need-returns
 returns c =

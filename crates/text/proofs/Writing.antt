@@ -8,7 +8,7 @@ use native.Mathlib.Numerals.{add-one}
 use lib.ListN.{length, take, drop, set, getD, length-append, length-take, length-drop, take-append-drop, drop-of-length-le}
 use lib.Seq.{drop-cons, set-append-seam, take-all, take-at, drop-at, drop-drop, take-suc}
 use Rattle.script.specs.Tables.{over}
-use Rattle.printer.specs.Places.{Put, Placed, most}
+use Rattle.text.specs.Places.{Put, Placed, most}
 
 pub put-none : {x : List ℕ} → Put [] x x 0
 unfolding over
