@@ -78,6 +78,10 @@ blankRow = record { step = constant; uses = [] }
 unfoldable pub rowOf : Node → Row
 rowOf nd = getD rows (nd .kind) blankRow
 
+-- the step of a kind
+unfoldable pub stepOf : ℕ → Step
+stepOf k = getD rows k blankRow .step
+
 unfoldable pub fields : Node → List ℕ
 fields nd = nd .a ∷ nd .b ∷ nd .c ∷ []
 

@@ -11,6 +11,7 @@ use lib.IntN.{pos}
 use lib.ListN.{length, getD, List·getD-eq-default}
 use lib.Dec.{leb, leb·suc-zero, leb·suc-suc}
 use borrow.Author.Tests.{le-leb}
+use Rattle.lambdamix.specs.Script.{stepOf, rows}
 use Rattle.lambdamix.specs.declared.Operator.the-variants.{Add}
 use Rattle.lambdamix.specs.declared.Use.{Use}
 use Rattle.lambdamix.specs.declared.Use.the-variants.{Child}
@@ -23,7 +24,7 @@ use Rattle.script.specs.Bytes.{signedBy, signed32}
 use Rattle.script.specs.declared.Row.{Row}
 use Rattle.script.specs.KindRows.{rowAt}
 use Rattle.script.specs.Words.{wordValue, wordKind, wordA, wordB, wordC}
-use Rattle.residual.specs.Cells.{constant, sortOf, two, codeBy, codeStep, codeAt, codeBelow, pieceBy, rowPieces, pieces}
+use Rattle.residual.specs.Cells.{two, codeBy, codeStep, codeAt, codeBelow, pieceBy, rowPieces, pieces}
 use Rattle.residual.specs.Cells.{spendBy, spendLeaf, spend, spendAll, spendOne, roomOf, Spends, SpendsUnder, SpendsAll}
 use Rattle.residual.proofs.Rows.{by-piece, HasRow, ByRow, kind-row}
 
@@ -33,7 +34,7 @@ past-operators f h = sym (ap operatorNumber (List·getD-eq-default operators Add
 
 -- ---- the tree, one cell at a time
 
-pub code-step : (xs : List ℕ) (p : ℕ) → codeAt xs p ≡ codeBy (sortOf (wordKind (getD xs p 0))) (codeBelow xs p) (getD xs p 0)
+pub code-step : (xs : List ℕ) (p : ℕ) → codeAt xs p ≡ codeBy (stepOf (wordKind (getD xs p 0))) (codeBelow xs p) (getD xs p 0)
 unfolding codeAt codeStep codeBelow
 code-step xs p = falling-step (lit (pos 0)) (codeStep xs) p
 
@@ -49,8 +50,8 @@ below-none xs p q h = below-out p (lit (pos 0)) (codeAt xs) q h
 abbrev pub Other : Type 0 → ℕ → Type 0
 Other N k = (((((N × (k ≡ 1 → ⊥)) × (k ≡ 8 → ⊥)) × (k ≡ 9 → ⊥)) × (k ≡ 10 → ⊥)) × (k ≡ 11 → ⊥)) × (k ≡ 12 → ⊥)
 
-other-kind : {N : Type 0} (k : ℕ) → Other N k → sortOf k ≡ constant
-unfolding sortOf
+other-kind : {N : Type 0} {self : ℕ → Code} {x : ℕ} (k : ℕ) → Other N k → codeBy (stepOf k) self x ≡ lit (wordValue x)
+unfolding stepOf rows codeBy
 other-kind zero r = refl
 other-kind (suc zero) r = absurd (r .0 .0 .0 .0 .0 .1 refl)
 other-kind (suc (suc zero)) r = refl
@@ -77,19 +78,18 @@ pub record Read (xs : List ℕ) (p : ℕ) (c : Code) : Type 0 where
 
 -- The code at a place, by the kind of its cell.
 module _ {xs : List ℕ} {p x k : ℕ} (s : Cell xs p x k) where
-  pub by-kind : {j : ℕ} → k ≡ j → codeAt xs p ≡ codeBy (sortOf j) (codeBelow xs p) x
+  pub by-kind : {j : ℕ} → k ≡ j → codeAt xs p ≡ codeBy (stepOf j) (codeBelow xs p) x
   by-kind g = code-step xs p ∙ rw (← s .word, ← s .kind, g)
 
   pub is-variable : k ≡ 1 → Read xs p (ref (wordA x))
-  unfolding sortOf codeBy
+  unfolding stepOf rows codeBy
   is-variable g = record { code = by-kind g }
 
   pub is-row : {j : ℕ} {r : Row} → HasRow j → k ≡ j → r ≡ rowAt j → ByRow (codeAt xs p) j r (codeBelow xs p) x
   is-row h g e = rw (by-kind g, e) (kind-row h (codeBelow xs p) x)
 
   pub is-constant : {N : Type 0} → Other N k → Read xs p (lit (wordValue x))
-  unfolding codeBy
-  is-constant r = record { code = by-kind refl ∙ rw (other-kind k r) }
+  is-constant r = record { code = by-kind refl ∙ other-kind k r }
 
 zero-value : wordValue 0 ≡ pos 0
 unfolding wordValue signed32 signedBy
@@ -97,7 +97,7 @@ zero-value = let e : 0 % 4294967296 ≡ 0 = omega arith in ap signed32 e
 
 -- past the end stands the constant 0
 pub past-read : {xs : List ℕ} {p : ℕ} → length xs ≤ p → Read xs p (lit (pos 0))
-unfolding sortOf codeBy wordKind
+unfolding stepOf rows codeBy wordKind
 past-read {xs} {p} h =
     let e : 0 / 281474976710656 ≡ 0 = omega arith in
     record { code = code-step xs p ∙ rw (List·getD-eq-default xs 0 {n = p} h, e) (ap lit zero-value) }
@@ -214,8 +214,8 @@ all-flat : (c : Code) (cs : Codes) (o : Option ℕ) → spendAll (consC c cs) o 
 all-flat c cs o = spend-more c cs o 0 ∙ rw (none-flat c o) (all-none cs 0)
 
 -- any cell but a variable's has something under its node
-kind-flat : (k : ℕ) (self : ℕ → Code) (x : ℕ) (o : Option ℕ) → (k ≡ 1 → ⊥) → spendAll (pieces (codeBy (sortOf k) self x)) o 0 ≡ none
-unfolding sortOf codeBy
+kind-flat : (k : ℕ) (self : ℕ → Code) (x : ℕ) (o : Option ℕ) → (k ≡ 1 → ⊥) → spendAll (pieces (codeBy (stepOf k) self x)) o 0 ≡ none
+unfolding stepOf rows codeBy
 kind-flat zero self x o f = all-flat (ref 0) nilC o
 kind-flat (suc zero) self x o f = absurd (f refl)
 kind-flat (suc (suc zero)) self x o f = all-flat (ref 0) nilC o

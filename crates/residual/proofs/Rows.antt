@@ -8,12 +8,12 @@ use denote.Enum.Declared.{tagOf}
 use Rattle.lambdamix.specs.declared.Use.{Use}
 use Rattle.lambdamix.proofs.Use.{the-type}
 use Rattle.lambdamix.specs.declared.Use.the-variants.{Nothing, Name, Binder, Child, ParameterType, Operation}
-use Rattle.lambdamix.specs.Script.{rows}
+use Rattle.lambdamix.specs.Script.{stepOf, rows}
 use Rattle.lambdamix.specs.Code.{Code, Codes, consC, formNode, top, after, tops, nodesFrom, allNodesFrom}
 use Rattle.script.specs.declared.Row.{Row}
 use Rattle.script.specs.Kinds.{usesTable, useOf}
 use Rattle.script.specs.KindRows.{rowAt}
-use Rattle.residual.specs.Cells.{sortOf, codeBy, pieceBy, rowPieces, pieces}
+use Rattle.residual.specs.Cells.{codeBy, pieceBy, rowPieces, pieces}
 use Rattle.residual.specs.Emission.{fieldBy, rowNode}
 
 -- ---- one field
@@ -58,8 +58,8 @@ pub record ByRow (c : Code) (j : ℕ) (r : Row) (self : ℕ → Code) (x : ℕ) 
   pub number : (k : ℕ) → top k c ≡ after k (rowPieces r self x)
   pub nodes : (k : ℕ) → nodesFrom k c ≡ allNodesFrom k (rowPieces r self x) ++ (rowNode j r self x k ∷ [])
 
-pub kind-row : {j : ℕ} → HasRow j → (self : ℕ → Code) (x : ℕ) → ByRow (codeBy (sortOf j) self x) j (rowAt j) self x
-unfolding sortOf codeBy rowAt useOf usesTable rows pieceBy fieldBy rowNode top tops nodesFrom formNode
+pub kind-row : {j : ℕ} → HasRow j → (self : ℕ → Code) (x : ℕ) → ByRow (codeBy (stepOf j) self x) j (rowAt j) self x
+unfolding stepOf codeBy rowAt useOf usesTable rows pieceBy fieldBy rowNode top tops nodesFrom formNode
 kind-row variable self x = record { pieces = refl; number = λ k. refl; nodes = λ k. refl }
 kind-row function self x = record { pieces = refl; number = λ k. refl; nodes = λ k. simp append-nil }
 kind-row application self x = record { pieces = refl; number = λ k. refl; nodes = λ k. refl }

@@ -89,7 +89,7 @@ fn put_prefixed(out: &mut [u8], letter: u8, x: u64) -> usize
 }
 
 // The text of a part.
-pub(crate) fn put_part(out: &mut [u8], p: Part) -> usize
+pub fn put_part(out: &mut [u8], p: Part) -> usize
     ensures { λ r. ⌜ Put (partText p) (now (out .entry)) (now (out .exit)) r ⌝ }
 {
     match p {
