@@ -16,7 +16,6 @@ use Rattle.script.specs.Replies.{Reply, replying, headCounts}
 use Rattle.annotation.specs.Checks.{checkRefusal}
 use Rattle.residual.specs.AfterRun as AfterRun
 use Rattle.residual.specs.AfterRun.{numberIn, placeIn, stepsIn, nodesIn}
-use Rattle.machine.specs.Room.{Stores}
 use Rattle.specializer.specs.Making.{making, refusalBefore, storesAfter}
 use Rattle.specializer.specs.Entry.{GivenFit}
 use Rattle.printer.specs.ListCalls.{tablesText, listRefusal}
@@ -25,6 +24,7 @@ use Rattle.scriptmaker.specs.declared.ReadReply.{ReadReply}
 use Rattle.scriptmaker.specs.declared.WriteReply.{WriteReply}
 use Rattle.scriptmaker.specs.declared.CheckReply.{CheckReply}
 use Rattle.scriptmaker.specs.declared.MakeReply.{MakeReply}
+use Rattle.machine.specs.Room.{Stores}
 
 abbrev pub countsOf : Counts → Script.Counts
 countsOf n = record { types = n .types; inputs = n .inputs; nodes = n .nodes }

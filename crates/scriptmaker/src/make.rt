@@ -7,8 +7,9 @@ use specializer::Reply;
 use specializer::make::make;
 ghost use mathlib.Core.Path.{_≡_};
 ghost use Rattle.script.specs.Tables.{tablesOf};
-ghost use Rattle.specializer.specs.Entry.{stores, replied};
+ghost use Rattle.specializer.specs.Entry.{replied};
 ghost use Rattle.scriptmaker.specs.Calls.{makeReply, Makes};
+ghost use Rattle.machine.specs.Room.{stores};
 
 fn reply(r: Reply) -> MakeReply
     ensures { λ q. ⌜ q ≡ makeReply (replied r) ⌝ }
