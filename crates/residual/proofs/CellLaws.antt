@@ -50,22 +50,22 @@ below-none xs p q h = below-out p (lit (pos 0)) (codeAt xs) q h
 abbrev pub Other : Type 0 → ℕ → Type 0
 Other N k = (((((N × (k ≡ 1 → ⊥)) × (k ≡ 8 → ⊥)) × (k ≡ 9 → ⊥)) × (k ≡ 10 → ⊥)) × (k ≡ 11 → ⊥)) × (k ≡ 12 → ⊥)
 
-other-kind : {N : Type 0} {self : ℕ → Code} {x : ℕ} (k : ℕ) → Other N k → codeBy (stepOf k) self x ≡ lit (wordValue x)
+other-kind : {N : Type 0} (self : ℕ → Code) (x k : ℕ) → Other N k → codeBy (stepOf k) self x ≡ lit (wordValue x)
 unfolding stepOf rows codeBy
-other-kind zero r = refl
-other-kind (suc zero) r = absurd (r .0 .0 .0 .0 .0 .1 refl)
-other-kind (suc (suc zero)) r = refl
-other-kind (suc (suc (suc zero))) r = refl
-other-kind (suc (suc (suc (suc zero)))) r = refl
-other-kind (suc (suc (suc (suc (suc zero))))) r = refl
-other-kind (suc (suc (suc (suc (suc (suc zero)))))) r = refl
-other-kind (suc (suc (suc (suc (suc (suc (suc zero))))))) r = refl
-other-kind (suc (suc (suc (suc (suc (suc (suc (suc zero)))))))) r = absurd (r .0 .0 .0 .0 .1 refl)
-other-kind (suc (suc (suc (suc (suc (suc (suc (suc (suc zero))))))))) r = absurd (r .0 .0 .0 .1 refl)
-other-kind (suc (suc (suc (suc (suc (suc (suc (suc (suc (suc zero)))))))))) r = absurd (r .0 .0 .1 refl)
-other-kind (suc (suc (suc (suc (suc (suc (suc (suc (suc (suc (suc zero))))))))))) r = absurd (r .0 .1 refl)
-other-kind (suc (suc (suc (suc (suc (suc (suc (suc (suc (suc (suc (suc zero)))))))))))) r = absurd (r .1 refl)
-other-kind (suc (suc (suc (suc (suc (suc (suc (suc (suc (suc (suc (suc (suc k))))))))))))) r = refl
+other-kind self x zero r = refl
+other-kind self x (suc zero) r = absurd (r .0 .0 .0 .0 .0 .1 refl)
+other-kind self x (suc (suc zero)) r = refl
+other-kind self x (suc (suc (suc zero))) r = refl
+other-kind self x (suc (suc (suc (suc zero)))) r = refl
+other-kind self x (suc (suc (suc (suc (suc zero))))) r = refl
+other-kind self x (suc (suc (suc (suc (suc (suc zero)))))) r = refl
+other-kind self x (suc (suc (suc (suc (suc (suc (suc zero))))))) r = refl
+other-kind self x (suc (suc (suc (suc (suc (suc (suc (suc zero)))))))) r = absurd (r .0 .0 .0 .0 .1 refl)
+other-kind self x (suc (suc (suc (suc (suc (suc (suc (suc (suc zero))))))))) r = absurd (r .0 .0 .0 .1 refl)
+other-kind self x (suc (suc (suc (suc (suc (suc (suc (suc (suc (suc zero)))))))))) r = absurd (r .0 .0 .1 refl)
+other-kind self x (suc (suc (suc (suc (suc (suc (suc (suc (suc (suc (suc zero))))))))))) r = absurd (r .0 .1 refl)
+other-kind self x (suc (suc (suc (suc (suc (suc (suc (suc (suc (suc (suc (suc zero)))))))))))) r = absurd (r .1 refl)
+other-kind self x (suc (suc (suc (suc (suc (suc (suc (suc (suc (suc (suc (suc (suc k))))))))))))) r = refl
 
 -- the cell x of kind k stands at p
 pub record Cell (xs : List ℕ) (p x k : ℕ) : Type 0 where
@@ -89,7 +89,7 @@ module _ {xs : List ℕ} {p x k : ℕ} (s : Cell xs p x k) where
   is-row h g e = rw (by-kind g, e) (kind-row h (codeBelow xs p) x)
 
   pub is-constant : {N : Type 0} → Other N k → Read xs p (lit (wordValue x))
-  is-constant r = record { code = by-kind refl ∙ other-kind k r }
+  is-constant r = record { code = by-kind refl ∙ other-kind (codeBelow xs p) x k r }
 
 zero-value : wordValue 0 ≡ pos 0
 unfolding wordValue signed32 signedBy
