@@ -18,8 +18,8 @@ use Rattle.lambdamix.proofs.Falling.{below-at, falling-step, below-out}
 use Rattle.script.specs.Kinds.{isChild}
 use Rattle.script.specs.declared.Row.{Row}
 use Rattle.script.specs.Words.{Columns, columnsIn}
-use Rattle.walks.specs.Walks.{keptIf, rowChildren, wordChildren, childrenAt, gathered, heightStep, heightAt, tooHighStep, tooHighAt, heightOver, Tall}
-use Rattle.walks.specs.Walks.{low, high, TallJoin, TallNode, TallOver}
+use Rattle.walks.specs.Walks.{keptIf, rowChildren, wordChildren, childrenAt, gathered, heightStep, heightAt, tooHighStep, tooHighAt, heightOver, Height}
+use Rattle.walks.specs.Walks.{low, high, HeightJoin, HeightNode, HeightOver}
 
 pub lowest-none : (r : Option ℕ) → lowest r none ≡ r
 unfolding lowest
@@ -70,41 +70,41 @@ module _ (ws : List ℕ) (i : ℕ) {w : ℕ} (e : w ≡ getD ws i 0) where
       ∙ ap (λ (ms : List ℕ). lowest (firstBy (leb (heightAt (columnsIn ws) i) maxHeight) i none)
       (gathered lowest none (below i none (tooHighAt (columnsIn ws))) ms)) word-children
 
-  pub tall-node :
-      {p r : ℕ} → TallOver (columnsIn ws) i (wordChildren w) p → TallNode i p r
-      → Tall r (heightAt (columnsIn ws) i) (tooHighAt (columnsIn ws) i)
-  tall-node t n = rw (word-too-high, word-height) (n .over _ _ t)
+  pub height-node :
+      {p r : ℕ} → HeightOver (columnsIn ws) i (wordChildren w) p → HeightNode i p r
+      → Height r (heightAt (columnsIn ws) i) (tooHighAt (columnsIn ws) i)
+  height-node t n = rw (word-too-high, word-height) (n .over _ _ t)
 
 -- ---- the children, one after the other
 
 module _ (x : Columns) (i : ℕ) where
   -- a child below its parent, and any other number
-  pub tall-child :
-      {m r : ℕ} → m < i → Tall r (heightAt x m) (tooHighAt x m) → Tall r (below i 1 (heightAt x) m) (below i none (tooHighAt x) m)
-  tall-child {m} h t = rw (below-at i 1 (heightAt x) m h, below-at i none (tooHighAt x) m h) t
+  pub height-child :
+      {m r : ℕ} → m < i → Height r (heightAt x m) (tooHighAt x m) → Height r (below i 1 (heightAt x) m) (below i none (tooHighAt x) m)
+  height-child {m} h t = rw (below-at i 1 (heightAt x) m h, below-at i none (tooHighAt x) m h) t
 
-  pub tall-stray : {m : ℕ} → i ≤ m → Tall 1 (below i 1 (heightAt x) m) (below i none (tooHighAt x) m)
+  pub height-stray : {m : ℕ} → i ≤ m → Height 1 (below i 1 (heightAt x) m) (below i none (tooHighAt x) m)
   unfolding maxHeight
-  tall-stray {m} h = rw (below-out i 1 (heightAt x) m h, below-out i none (tooHighAt x) m h) (low {h = 1} (omega arith))
+  height-stray {m} h = rw (below-out i 1 (heightAt x) m h, below-out i none (tooHighAt x) m h) (low {h = 1} (omega arith))
 
-  pub over-none : {ms : List ℕ} → ms ≡ [] → TallOver x i ms 0
+  pub over-none : {ms : List ℕ} → ms ≡ [] → HeightOver x i ms 0
   unfolding heightOver gathered maxHeight
   over-none e = rw e (low {h = 0} (omega arith))
 
   -- a field that is a child, and one that is none
   pub over-child :
-      (m : ℕ) {b : Bool} {r : ℕ} → b ≡ true → Tall r (below i 1 (heightAt x) m) (below i none (tooHighAt x) m)
-      → TallOver x i (keptIf b m []) r
+      (m : ℕ) {b : Bool} {r : ℕ} → b ≡ true → Height r (below i 1 (heightAt x) m) (below i none (tooHighAt x) m)
+      → HeightOver x i (keptIf b m []) r
   unfolding heightOver gathered keptIf
   over-child m e t = rw (e, max-zero (below i 1 (heightAt x) m), lowest-none (below i none (tooHighAt x) m)) t
 
-  pub over-other : (m : ℕ) {b : Bool} → b ≡ false → TallOver x i (keptIf b m []) 0
+  pub over-other : (m : ℕ) {b : Bool} → b ≡ false → HeightOver x i (keptIf b m []) 0
   unfolding keptIf
   over-other m e = rw e (over-none refl)
 
   over-kept :
-      (b : Bool) (m : ℕ) (ms : List ℕ) {p q r : ℕ} → TallOver x i (keptIf b m []) p → TallOver x i ms q → TallJoin p q r
-      → TallOver x i (keptIf b m ms) r
+      (b : Bool) (m : ℕ) (ms : List ℕ) {p q r : ℕ} → HeightOver x i (keptIf b m []) p → HeightOver x i ms q → HeightJoin p q r
+      → HeightOver x i (keptIf b m ms) r
   unfolding heightOver lowest
   over-kept b m ms t u j =
       rw (gathered-kept max 0 _ (λ y. omega arith) max-zero b m ms, gathered-kept lowest none _ (λ y. refl) lowest-none b m ms)
@@ -113,8 +113,8 @@ module _ (x : Columns) (i : ℕ) where
   module _ (row : Row) (a b c : ℕ) where
     -- the three fields
     pub over-fields :
-        {p q r s t : ℕ} → TallOver x i (keptIf (isChild (row .0)) a []) p → TallOver x i (keptIf (isChild (row .1)) b []) q
-        → TallOver x i (keptIf (isChild (row .2)) c []) r → TallJoin q r s → TallJoin p s t → TallOver x i (rowChildren row a b c) t
+        {p q r s t : ℕ} → HeightOver x i (keptIf (isChild (row .0)) a []) p → HeightOver x i (keptIf (isChild (row .1)) b []) q
+        → HeightOver x i (keptIf (isChild (row .2)) c []) r → HeightJoin q r s → HeightJoin p s t → HeightOver x i (rowChildren row a b c) t
     unfolding rowChildren
     over-fields t u v j k = over-kept _ a _ t (over-kept _ b _ u v j) k
 
@@ -130,27 +130,27 @@ module _ (x : Columns) (i : ℕ) where
 -- ---- two answers in one
 
 -- a height and what is no less
-after-height : {p q h g : ℕ} {t u : Option ℕ} → p ≤ q → p ≤ maxHeight → Tall p h t → Tall q g u → Tall q (max h g) (lowest t u)
+after-height : {p q h g : ℕ} {t u : Option ℕ} → p ≤ q → p ≤ maxHeight → Height p h t → Height q g u → Height q (max h g) (lowest t u)
 unfolding lowest maxHeight
 after-height {h = h} {g = g} l k (low a) (low b) = let e : max h g ≡ g = omega arith in rw e (low b)
 after-height {h = h} {g = g} l k (low a) (high e b c) = high {h = max h g} e (omega arith) c
 after-height l k (high e a c) t = absurd (omega arith)
 
-before-height : {p q h g : ℕ} {t u : Option ℕ} → q ≤ p → q ≤ maxHeight → Tall p h t → Tall q g u → Tall p (max h g) (lowest t u)
+before-height : {p q h g : ℕ} {t u : Option ℕ} → q ≤ p → q ≤ maxHeight → Height p h t → Height q g u → Height p (max h g) (lowest t u)
 unfolding lowest maxHeight
 before-height {h = h} {g = g} l k (low a) (low b) = let e : max h g ≡ h = omega arith in rw e (low a)
 before-height {h = h} {g = g} l k (high e a c) (low b) = high {h = max h g} e (omega arith) c
 before-height l k t (high e b c) = absurd (omega arith)
 
 -- two places
-first-place : {p q h g : ℕ} {t u : Option ℕ} → p < q → maxHeight < p → Tall p h t → Tall q g u → Tall p (max h g) (lowest t u)
+first-place : {p q h g : ℕ} {t u : Option ℕ} → p < q → maxHeight < p → Height p h t → Height q g u → Height p (max h g) (lowest t u)
 unfolding maxHeight
 first-place l k (low a) t = absurd (omega arith)
 first-place l k (high e a c) (low b) = absurd (omega arith)
 first-place {h = h} {g = g} l k (high {j = i} e a c) (high {j = j} f b d) =
     rw (lowest-first i j (omega arith)) (high {h = max h g} e (omega arith) c)
 
-second-place : {p q h g : ℕ} {t u : Option ℕ} → q ≤ p → maxHeight < q → Tall p h t → Tall q g u → Tall q (max h g) (lowest t u)
+second-place : {p q h g : ℕ} {t u : Option ℕ} → q ≤ p → maxHeight < q → Height p h t → Height q g u → Height q (max h g) (lowest t u)
 unfolding maxHeight
 second-place l k t (low b) = absurd (omega arith)
 second-place l k (low a) (high f b d) = absurd (omega arith)
@@ -158,71 +158,71 @@ second-place {h = h} {g = g} l k (high {j = i} e a c) (high {j = j} f b d) =
     rw (lowest-second i j (omega arith)) (high {h = max h g} f (omega arith) d)
 
 module _ {p q : ℕ} where
-  pub join-second : p < q → p ≤ maxHeight → TallJoin p q q
+  pub join-second : p < q → p ≤ maxHeight → HeightJoin p q q
   join-second l k = record { joined = λ h g t u. after-height (omega arith) k }
 
-  pub join-first : q ≤ p → q ≤ maxHeight → TallJoin p q p
+  pub join-first : q ≤ p → q ≤ maxHeight → HeightJoin p q p
   join-first l k = record { joined = λ h g t u. before-height l k }
 
-  pub join-places-first : p < q → maxHeight < p → TallJoin p q p
+  pub join-places-first : p < q → maxHeight < p → HeightJoin p q p
   join-places-first l k = record { joined = λ h g t u. first-place l k }
 
-  pub join-places-second : q ≤ p → maxHeight < q → TallJoin p q q
+  pub join-places-second : q ≤ p → maxHeight < q → HeightJoin p q q
   join-places-second l k = record { joined = λ h g t u. second-place l k }
 
 -- ---- a node over the answer of its children
 
 grown :
-    (i : ℕ) {p h : ℕ} {t : Option ℕ} → p < maxHeight → Tall p h t → Tall (p + 1) (suc h) (lowest (firstBy (leb (suc h) maxHeight) i none) t)
+    (i : ℕ) {p h : ℕ} {t : Option ℕ} → p < maxHeight → Height p h t → Height (p + 1) (suc h) (lowest (firstBy (leb (suc h) maxHeight) i none) t)
 unfolding maxHeight firstBy lowest
 grown i {h = h} l (low a) = rw (le-leb (suc h) maxHeight (omega arith), add-one h) (low {h = suc h} (omega arith))
 grown i l (high e a c) = absurd (omega arith)
 
 -- the first that is too high
 crossed :
-    (i : ℕ) {p r h : ℕ} {t : Option ℕ} → maxHeight ≤ p → p ≤ maxHeight → r ≡ maxHeight + 1 + i → i < 65536 → Tall p h t
-    → Tall r (suc h) (lowest (firstBy (leb (suc h) maxHeight) i none) t)
+    (i : ℕ) {p r h : ℕ} {t : Option ℕ} → maxHeight ≤ p → p ≤ maxHeight → r ≡ maxHeight + 1 + i → i < 65536 → Height p h t
+    → Height r (suc h) (lowest (firstBy (leb (suc h) maxHeight) i none) t)
 unfolding maxHeight firstBy lowest
 crossed i {h = h} l k e b (low a) = rw (lt-leb (suc h) maxHeight (omega arith)) (high {h = suc h} e (omega arith) b)
 crossed i l k e b (high f a c) = absurd (omega arith)
 
 -- a place below that is lower, and one that is not
 passed-on :
-    (i : ℕ) {p h : ℕ} {t : Option ℕ} → maxHeight < p → p < maxHeight + 1 + i → Tall p h t
-    → Tall p (suc h) (lowest (firstBy (leb (suc h) maxHeight) i none) t)
+    (i : ℕ) {p h : ℕ} {t : Option ℕ} → maxHeight < p → p < maxHeight + 1 + i → Height p h t
+    → Height p (suc h) (lowest (firstBy (leb (suc h) maxHeight) i none) t)
 unfolding maxHeight firstBy
 passed-on i l k (low a) = absurd (omega arith)
 passed-on i {h = h} l k (high {j = j} f a c) = rw (lt-leb (suc h) maxHeight (omega arith), lowest-second i j (omega arith)) (high {h = suc h} f (omega arith) c)
 
 kept-own :
-    (i : ℕ) {p r h : ℕ} {t : Option ℕ} → maxHeight < p → maxHeight + 1 + i ≤ p → r ≡ maxHeight + 1 + i → i < 65536 → Tall p h t
-    → Tall r (suc h) (lowest (firstBy (leb (suc h) maxHeight) i none) t)
+    (i : ℕ) {p r h : ℕ} {t : Option ℕ} → maxHeight < p → maxHeight + 1 + i ≤ p → r ≡ maxHeight + 1 + i → i < 65536 → Height p h t
+    → Height r (suc h) (lowest (firstBy (leb (suc h) maxHeight) i none) t)
 unfolding maxHeight firstBy
 kept-own i l k e b (low a) = absurd (omega arith)
 kept-own i {h = h} l k e b (high {j = j} f a c) =
     rw (lt-leb (suc h) maxHeight (omega arith), lowest-first i j (omega arith)) (high {h = suc h} e (omega arith) b)
 
 module _ {i p : ℕ} where
-  pub node-low : p < maxHeight → TallNode i p (p + 1)
+  pub node-low : p < maxHeight → HeightNode i p (p + 1)
   node-low l = record { over = λ h t. grown i l }
 
-  pub node-crosses : maxHeight ≤ p → p ≤ maxHeight → i < 65536 → TallNode i p (maxHeight + 1 + i)
+  pub node-crosses : maxHeight ≤ p → p ≤ maxHeight → i < 65536 → HeightNode i p (maxHeight + 1 + i)
   node-crosses l k b = record { over = λ h t. crossed i l k refl b }
 
-  pub node-passes-on : maxHeight < p → p < maxHeight + 1 + i → TallNode i p p
+  pub node-passes-on : maxHeight < p → p < maxHeight + 1 + i → HeightNode i p p
   node-passes-on l k = record { over = λ h t. passed-on i l k }
 
-  pub node-keeps-own : maxHeight < p → maxHeight + 1 + i ≤ p → i < 65536 → TallNode i p (maxHeight + 1 + i)
+  pub node-keeps-own : maxHeight < p → maxHeight + 1 + i ≤ p → i < 65536 → HeightNode i p (maxHeight + 1 + i)
   node-keeps-own l k b = record { over = λ h t. kept-own i l k refl b }
 
 -- ---- the answer at the root
 
-pub tall-low : {r h : ℕ} {t : Option ℕ} → Tall r h t → r ≤ maxHeight → (h ≤ maxHeight) × (t ≡ none)
+pub height-low : {r h : ℕ} {t : Option ℕ} → Height r h t → r ≤ maxHeight → (h ≤ maxHeight) × (t ≡ none)
 unfolding maxHeight
-tall-low (low a) l = (a, refl)
-tall-low (high e a c) l = absurd (omega arith)
+height-low (low a) l = (a, refl)
+height-low (high e a c) l = absurd (omega arith)
 
-pub tall-high : {r h : ℕ} {t : Option ℕ} → Tall r h t → maxHeight < r → t ≡ some (r - (maxHeight + 1))
+pub height-high : {r h : ℕ} {t : Option ℕ} → Height r h t → maxHeight < r → t ≡ some (r - (maxHeight + 1))
 unfolding maxHeight
-tall-high (low a) l = absurd (omega arith)
-tall-high (high e a c) l = ap some (omega arith)
+height-high (low a) l = absurd (omega arith)
+height-high (high e a c) l = ap some (omega arith)

@@ -84,23 +84,23 @@ tooHighAt x = falling none (tooHighStep x)
 
 -- what a walk of heights answers in one number: a height within the limit, or the limit and one plus the lowest node that is
 -- too high
-pub data Tall : ℕ → ℕ → Option ℕ → Type 0 where
-  low : {h : ℕ} → h ≤ maxHeight → Tall h h none
-  high : {r h j : ℕ} → r ≡ maxHeight + 1 + j → maxHeight < h → j < 65536 → Tall r h (some j)
+pub data Height : ℕ → ℕ → Option ℕ → Type 0 where
+  low : {h : ℕ} → h ≤ maxHeight → Height h h none
+  high : {r h j : ℕ} → r ≡ maxHeight + 1 + j → maxHeight < h → j < 65536 → Height r h (some j)
 
 -- the answers of two walks in one, and a node over the answer of its children
-pub record TallJoin (p q r : ℕ) : Type 0 where
-  pub joined : (h g : ℕ) (t u : Option ℕ) → Tall p h t → Tall q g u → Tall r (max h g) (lowest t u)
+pub record HeightJoin (p q r : ℕ) : Type 0 where
+  pub joined : (h g : ℕ) (t u : Option ℕ) → Height p h t → Height q g u → Height r (max h g) (lowest t u)
 
-pub record TallNode (i p r : ℕ) : Type 0 where
-  pub over : (h : ℕ) (t : Option ℕ) → Tall p h t → Tall r (suc h) (lowest (firstBy (leb (suc h) maxHeight) i none) t)
+pub record HeightNode (i p r : ℕ) : Type 0 where
+  pub over : (h : ℕ) (t : Option ℕ) → Height p h t → Height r (suc h) (lowest (firstBy (leb (suc h) maxHeight) i none) t)
 
 -- the height of the highest of some children of node i, and what a walk of heights answers of them
 unfoldable pub heightOver : Columns → ℕ → List ℕ → ℕ
 heightOver x i ms = gathered max 0 (below i 1 (heightAt x)) ms
 
-abbrev pub TallOver : Columns → ℕ → List ℕ → ℕ → Type 0
-TallOver x i ms r = Tall r (heightOver x i ms) (gathered lowest none (below i none (tooHighAt x)) ms)
+abbrev pub HeightOver : Columns → ℕ → List ℕ → ℕ → Type 0
+HeightOver x i ms r = Height r (heightOver x i ms) (gathered lowest none (below i none (tooHighAt x)) ms)
 
 -- node i, if its name is no input's and not among the names
 unfoldable pub unboundName : ℕ → List ℕ → ℕ → ℕ → Option ℕ

@@ -34,7 +34,7 @@ ghost use Rattle.lambdamix.specs.Structure.{occurrences, firstFailing, member, 
 ghost use Rattle.script.specs.Kinds.{isChild};
 ghost use Rattle.script.specs.Verdicts.{foundAt, refusalOf};
 ghost use Rattle.script.specs.Words.{wordA, wordB, wordC, columnsIn};
-ghost use Rattle.walks.specs.Walks.{keptIf, rowChildren, wordChildren, usesBelow, usedOnceAt, Counted, heightAt, tooHighAt, heightOver, Tall, TallOver, TallJoin, TallNode, unboundName, unboundField, unboundBy, unboundBelow, unboundAt, innermost, Entered, Lower, Scoped, Structured};
+ghost use Rattle.walks.specs.Walks.{keptIf, rowChildren, wordChildren, usesBelow, usedOnceAt, Counted, heightAt, tooHighAt, heightOver, Height, HeightOver, HeightJoin, HeightNode, unboundName, unboundField, unboundBy, unboundBelow, unboundAt, innermost, Entered, Lower, Scoped, Structured};
 
 // The highest tree.
 const HIGHEST: u32 = MAX_HEIGHT as u32;
@@ -136,8 +136,8 @@ fn first_misused(nodes: &[u64], count: u16) -> Found
 }
 
 // The answers of two walks of heights: the higher height, or the lower place.
-fn tall_join(p: u32, q: u32) -> u32
-    ensures { λ r. ⌜ TallJoin p q r ⌝ }
+fn height_join(p: u32, q: u32) -> u32
+    ensures { λ r. ⌜ HeightJoin p q r ⌝ }
 {
     if p < q {
         if p <= HIGHEST {
@@ -152,8 +152,8 @@ fn tall_join(p: u32, q: u32) -> u32
 }
 
 // Node i over what was answered of its children.
-fn tall_over(i: NodeNumber, p: u32) -> u32
-    ensures { λ r. ⌜ TallNode (i .0) p r ⌝ }
+fn height_over(i: NodeNumber, p: u32) -> u32
+    ensures { λ r. ⌜ HeightNode (i .0) p r ⌝ }
 {
     if p < HIGHEST {
         return p + 1;
@@ -168,63 +168,63 @@ fn tall_over(i: NodeNumber, p: u32) -> u32
 }
 
 // The height of node i's tree if no node of it is too high, else HIGHEST + 1 plus the lowest node that is.
-fn tall(nodes: &&[u64], i: NodeNumber) -> u32
-    ensures { λ r. ⌜ Tall r (heightAt (columnsIn (now (now (nodes .entry)))) (i .0)) (tooHighAt (columnsIn (now (now (nodes .entry)))) (i .0)) ⌝ }
+fn height(nodes: &&[u64], i: NodeNumber) -> u32
+    ensures { λ r. ⌜ Height r (heightAt (columnsIn (now (now (nodes .entry)))) (i .0)) (tooHighAt (columnsIn (now (now (nodes .entry)))) (i .0)) ⌝ }
 {
-    let p = tall_children(nodes, i, node_word(*nodes, i));
-    tall_over(i, p)
+    let p = height_children(nodes, i, node_word(*nodes, i));
+    height_over(i, p)
 }
 
 // The children of node i, whose word is w, by the row of its kind.
-fn tall_children(nodes: &&[u64], i: NodeNumber, w: u64) -> u32
-    ensures { λ r. ⌜ TallOver (columnsIn (now (now (nodes .entry)))) (i .0) (wordChildren w) r ⌝ }
+fn height_children(nodes: &&[u64], i: NodeNumber, w: u64) -> u32
+    ensures { λ r. ⌜ HeightOver (columnsIn (now (now (nodes .entry)))) (i .0) (wordChildren w) r ⌝ }
 {
     match kind(w) {
-        0 => tall_fields(nodes, i, w, row_of(0)),
-        1 => tall_fields(nodes, i, w, row_of(1)),
-        2 => tall_fields(nodes, i, w, row_of(2)),
-        3 => tall_fields(nodes, i, w, row_of(3)),
-        4 => tall_fields(nodes, i, w, row_of(4)),
-        5 => tall_fields(nodes, i, w, row_of(5)),
-        6 => tall_fields(nodes, i, w, row_of(6)),
-        7 => tall_fields(nodes, i, w, row_of(7)),
-        8 => tall_fields(nodes, i, w, row_of(8)),
-        9 => tall_fields(nodes, i, w, row_of(9)),
-        10 => tall_fields(nodes, i, w, row_of(10)),
-        11 => tall_fields(nodes, i, w, row_of(11)),
-        12 => tall_fields(nodes, i, w, row_of(12)),
+        0 => height_fields(nodes, i, w, row_of(0)),
+        1 => height_fields(nodes, i, w, row_of(1)),
+        2 => height_fields(nodes, i, w, row_of(2)),
+        3 => height_fields(nodes, i, w, row_of(3)),
+        4 => height_fields(nodes, i, w, row_of(4)),
+        5 => height_fields(nodes, i, w, row_of(5)),
+        6 => height_fields(nodes, i, w, row_of(6)),
+        7 => height_fields(nodes, i, w, row_of(7)),
+        8 => height_fields(nodes, i, w, row_of(8)),
+        9 => height_fields(nodes, i, w, row_of(9)),
+        10 => height_fields(nodes, i, w, row_of(10)),
+        11 => height_fields(nodes, i, w, row_of(11)),
+        12 => height_fields(nodes, i, w, row_of(12)),
         _ => 0,
     }
 }
 
 // The fields that are children by a row.
-fn tall_fields(nodes: &&[u64], i: NodeNumber, w: u64, row: Row) -> u32
-    ensures { λ r. ⌜ TallOver (columnsIn (now (now (nodes .entry)))) (i .0) (rowChildren row (wordA w) (wordB w) (wordC w)) r ⌝ }
+fn height_fields(nodes: &&[u64], i: NodeNumber, w: u64, row: Row) -> u32
+    ensures { λ r. ⌜ HeightOver (columnsIn (now (now (nodes .entry)))) (i .0) (rowChildren row (wordA w) (wordB w) (wordC w)) r ⌝ }
 {
     let u = row.0;
     let v = row.1;
     let t = row.2;
-    let p = tall_field(nodes, i, u, field_a(w));
-    let q = tall_field(nodes, i, v, field_b(w));
-    tall_join(p, tall_join(q, tall_field(nodes, i, t, field_c(w))))
+    let p = height_field(nodes, i, u, field_a(w));
+    let q = height_field(nodes, i, v, field_b(w));
+    height_join(p, height_join(q, height_field(nodes, i, t, field_c(w))))
 }
 
 // A field is walked where it is a child.
-fn tall_field(nodes: &&[u64], i: NodeNumber, u: Use, f: u16) -> u32
-    ensures { λ r. ⌜ TallOver (columnsIn (now (now (nodes .entry)))) (i .0) (keptIf (isChild u) f []) r ⌝ }
+fn height_field(nodes: &&[u64], i: NodeNumber, u: Use, f: u16) -> u32
+    ensures { λ r. ⌜ HeightOver (columnsIn (now (now (nodes .entry)))) (i .0) (keptIf (isChild u) f []) r ⌝ }
 {
     if is_child(u) {
-        return tall_child(nodes, i, NodeNumber(f));
+        return height_child(nodes, i, NodeNumber(f));
     }
     0
 }
 
 // A child of node i: one whose number is below is walked.
-fn tall_child(nodes: &&[u64], i: NodeNumber, m: NodeNumber) -> u32
-    ensures { λ r. ⌜ Tall r (below (i .0) 1 (heightAt (columnsIn (now (now (nodes .entry))))) (m .0)) (below (i .0) none (tooHighAt (columnsIn (now (now (nodes .entry))))) (m .0)) ⌝ }
+fn height_child(nodes: &&[u64], i: NodeNumber, m: NodeNumber) -> u32
+    ensures { λ r. ⌜ Height r (below (i .0) 1 (heightAt (columnsIn (now (now (nodes .entry))))) (m .0)) (below (i .0) none (tooHighAt (columnsIn (now (now (nodes .entry))))) (m .0)) ⌝ }
 {
     if m.0 < i.0 {
-        return tall(nodes, m);
+        return height(nodes, m);
     }
     1
 }
@@ -413,7 +413,7 @@ fn tree_refusal(nodes: &[u64], inputs: usize, root: NodeNumber) -> Verdict
     requires { ⌜ root .0 < 65535 ⌝ }
     ensures { λ r. ⌜ refusalOf r ≡ orElse (refusedAt 7 (tooHighAt (columnsIn (now (nodes .entry))) (root .0))) (refusedAt 8 (unboundAt (columnsIn (now (nodes .entry))) inputs (root .0) [])) ⌝ }
 {
-    let height = tall(&nodes, root);
+    let height = height(&nodes, root);
     if height <= HIGHEST {
         return scope_refusal(nodes, inputs, root);
     }

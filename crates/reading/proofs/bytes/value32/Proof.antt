@@ -1,4 +1,4 @@
--- `file::bytes::value32` meets its contract. Assumes nothing.
+-- `reading::bytes::value32` meets its contract. Assumes nothing.
 use mathlib.Core.Path.{ap, _∙_}
 use mir.Syntax.{w32}
 use mir.Facts.{toZ-ofZ}

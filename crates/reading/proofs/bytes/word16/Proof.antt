@@ -1,4 +1,4 @@
--- `file::bytes::word16` meets its contract: the lower byte stands first. Assumes nothing.
+-- `reading::bytes::word16` meets its contract: the lower byte stands first. Assumes nothing.
 use borrow.Author.Needs.{needs}
 use native.Mathlib.Omega.{arith}
 use Rattle.script.specs.Bytes.{byteAt, word16}

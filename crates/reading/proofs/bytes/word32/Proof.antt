@@ -1,4 +1,4 @@
--- `file::bytes::word32` meets its contract: the lower word stands first. Assumes nothing.
+-- `reading::bytes::word32` meets its contract: the lower word stands first. Assumes nothing.
 use borrow.Author.Needs.{needs}
 use native.Mathlib.Omega.{arith}
 use Rattle.script.specs.Bytes.{word32}

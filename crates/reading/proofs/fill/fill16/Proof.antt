@@ -1,4 +1,4 @@
--- `file::fill::fill16` meets its contract: the loop fills. Assumes nothing.
+-- `reading::fill::fill16` meets its contract: the loop fills. Assumes nothing.
 use Prim.Native.Nat.{_+_, _-_, _*_}
 use mathlib.Core.Path.{ap, _∙_}
 use native.Mathlib.Omega.{arith}

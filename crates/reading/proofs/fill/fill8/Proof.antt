@@ -1,4 +1,4 @@
--- `file::fill::fill8` meets its contract: the loop fills. Assumes nothing.
+-- `reading::fill::fill8` meets its contract: the loop fills. Assumes nothing.
 use Prim.Native.Nat.{ℕ, _+_, _-_, _*_}
 use mathlib.Core.Path.{ap, _∙_}
 use native.Mathlib.Omega.{arith}

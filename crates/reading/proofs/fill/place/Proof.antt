@@ -1,4 +1,4 @@
--- `file::fill::place` meets its contract: every place fits. Assumes nothing.
+-- `reading::fill::place` meets its contract: every place fits. Assumes nothing.
 use Prim.Native.Nat.{_*_, _≤_}
 use borrow.Author.Needs.{needs}
 use native.Mathlib.Nat.{mul-le-mul}

@@ -1,4 +1,4 @@
--- `file::marks::mark_refusal` meets its contract: three searches, one after the other. Assumes nothing.
+-- `reading::marks::mark_refusal` meets its contract: three searches, one after the other. Assumes nothing.
 use borrow.Author.Needs.{needs}
 use Rattle.script.specs.Refusals.{markRefusal}
 use Rattle.script.proofs.Verdicts.{told-first, told-then}

@@ -1,4 +1,4 @@
--- `file::marks::marked` meets its contract. Assumes nothing.
+-- `reading::marks::marked` meets its contract. Assumes nothing.
 use borrow.Author.Needs.{needs}
 use borrow.Author.Tests.{eq-eqb, ne-eqb}
 use Rattle.script.specs.Bytes.{byteAt}

@@ -1,4 +1,4 @@
--- `file::marks::unmarked` meets its contract: the loop searches. Assumes nothing.
+-- `reading::marks::unmarked` meets its contract: the loop searches. Assumes nothing.
 use Prim.Native.Nat.{ℕ, _+_, _-_, _*_}
 use mathlib.Core.Path.{_≡_, sym, ap, _∙_}
 use mathlib.Core.Bool.{Bool}

@@ -1,4 +1,4 @@
--- `file::reader::body_refusal` meets its contract: its own columns hold the file's script. Assumes nothing.
+-- `reading::reader::body_refusal` meets its contract: its own columns hold the file's script. Assumes nothing.
 use mathlib.Core.Path.{refl, sym}
 use Rattle.lambdamix.specs.Limits.{maxTypes, maxInputs, maxNodes}
 use Rattle.script.proofs.ReplyLaws.{told-by}

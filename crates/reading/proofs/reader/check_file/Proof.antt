@@ -1,4 +1,4 @@
--- `file::reader::check_file` meets its contract: the head, then the body. Assumes nothing.
+-- `reading::reader::check_file` meets its contract: the head, then the body. Assumes nothing.
 use borrow.Author.Needs.{needs}
 use Rattle.script.specs.Refusals.{fileRefusal}
 use Rattle.script.proofs.ReplyLaws.{tells-by}

@@ -1,4 +1,4 @@
--- `file::reader::counts_read` meets its contract: of a refused file nothing is counted. Assumes nothing.
+-- `reading::reader::counts_read` meets its contract: of a refused file nothing is counted. Assumes nothing.
 use borrow.Author.Needs.{needs}
 use Prim.Native.Nat.{ℕ}
 use mathlib.Core.Path.{_≡_}

@@ -1,4 +1,4 @@
--- `file::reader::fill_tables` meets its contract: each column is filled with its field of each record. Assumes nothing.
+-- `reading::reader::fill_tables` meets its contract: each column is filled with its field of each record. Assumes nothing.
 use Rattle.reading.proofs.FillLaws.{tables-filled}
 use Rattle.reading.proofs.reader.fill_tables.Statement.{statement}
 use Rattle.reading.proofs.reader.fill_tables.Tie as tie

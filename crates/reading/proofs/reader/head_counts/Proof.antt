@@ -1,4 +1,4 @@
--- `file::reader::head_counts` meets its contract. Assumes nothing.
+-- `reading::reader::head_counts` meets its contract. Assumes nothing.
 use Rattle.script.specs.File.{headTypes, headInputs, headNodes}
 use Rattle.script.specs.Replies.{headCounts}
 use Rattle.reading.proofs.reader.head_counts.Statement.{statement}

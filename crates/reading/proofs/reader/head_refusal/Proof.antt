@@ -1,4 +1,4 @@
--- `file::reader::head_refusal` meets its contract: four tests in their order. Assumes nothing.
+-- `reading::reader::head_refusal` meets its contract: four tests in their order. Assumes nothing.
 use borrow.Author.Tests.{le-leb, lt-leb, eq-eqb, ne-eqb}
 use mathlib.Core.Path.{refl, sym, _∙_}
 use Rattle.lambdamix.specs.Structure.{orElse, refusedUnless}

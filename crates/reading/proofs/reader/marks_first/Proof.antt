@@ -1,4 +1,4 @@
--- `file::reader::marks_first` meets its contract. Assumes nothing.
+-- `reading::reader::marks_first` meets its contract. Assumes nothing.
 use borrow.Author.Needs.{needs}
 use borrow.Author.Tests.{lt-ltb, le-ltb}
 use Rattle.script.specs.Refusals.{earlierBy}

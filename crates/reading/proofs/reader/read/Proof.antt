@@ -1,4 +1,4 @@
--- `file::reader::read` meets its contract: nothing is written unless the file has passed and the tables are long enough.
+-- `reading::reader::read` meets its contract: nothing is written unless the file has passed and the tables are long enough.
 -- Assumes nothing.
 use Rattle.reading.proofs.ReaderLaws.{counts-fit, reads-by}
 use Rattle.reading.proofs.reader.read.Statement.{statement}

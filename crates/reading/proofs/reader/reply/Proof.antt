@@ -1,4 +1,4 @@
--- `file::reader::reply` meets its contract: the file's verdict, then the lengths of the columns. Assumes nothing.
+-- `reading::reader::reply` meets its contract: the file's verdict, then the lengths of the columns. Assumes nothing.
 use borrow.Author.Needs.{needs}
 use Rattle.script.proofs.ReplyLaws.{told-by}
 use Rattle.reading.proofs.ReaderLaws.{refused-read, passed-read, short-read, long-told}

@@ -1,4 +1,4 @@
--- `tables::structure::count_field` meets its contract: a field that is no child counts nothing. Assumes nothing.
+-- `walks::structure::count_field` meets its contract: a field that is no child counts nothing. Assumes nothing.
 use borrow.Author.Needs.{needs}
 use mathlib.Core.Path.{sym, _∙_}
 use Rattle.walks.specs.Walks.{keptIf}

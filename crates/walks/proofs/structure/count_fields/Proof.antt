@@ -1,4 +1,4 @@
--- `tables::structure::count_fields` meets its contract: the three fields are counted one after the other. Assumes nothing.
+-- `walks::structure::count_fields` meets its contract: the three fields are counted one after the other. Assumes nothing.
 use borrow.Author.Needs.{needs}
 use Rattle.walks.proofs.UseCounts.{counted-fields}
 use Rattle.walks.proofs.structure.count_fields.Statement.{statement}

@@ -1,4 +1,4 @@
--- `tables::structure::count_node` meets its contract: each arm reads the row of its own kind. Assumes nothing.
+-- `walks::structure::count_node` meets its contract: each arm reads the row of its own kind. Assumes nothing.
 use borrow.Author.Needs.{needs}
 use native.Mathlib.Omega.{arith}
 use Rattle.lambdamix.specs.Structure.{occurrences}

@@ -1,4 +1,4 @@
--- `tables::structure::count_nodes` meets its contract. The invariant: the uses by the nodes before i are counted. Assumes nothing.
+-- `walks::structure::count_nodes` meets its contract. The invariant: the uses by the nodes before i are counted. Assumes nothing.
 use borrow.Author.Needs.{needs}
 use Prim.Native.Nat.{_≤_, _-_}
 use mathlib.Core.Path.{_≡_, sym}

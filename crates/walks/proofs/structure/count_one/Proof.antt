@@ -1,4 +1,4 @@
--- `tables::structure::count_one` meets its contract: the node's count grows by one unless it is two already. Assumes nothing.
+-- `walks::structure::count_one` meets its contract: the node's count grows by one unless it is two already. Assumes nothing.
 use borrow.Author.Needs.{needs}
 use native.Mathlib.Omega.{arith}
 use Rattle.walks.proofs.UseCounts.{counted-more, counted-full}

@@ -1,4 +1,4 @@
--- `tables::structure::first_misused` meets its contract: a capped count is one where the node is used once. Assumes nothing.
+-- `walks::structure::first_misused` meets its contract: a capped count is one where the node is used once. Assumes nothing.
 use borrow.Author.Needs.{needs}
 use mathlib.Core.Path.{_∙_}
 use native.Mathlib.Omega.{arith}

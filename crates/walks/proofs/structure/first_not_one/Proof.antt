@@ -1,4 +1,4 @@
--- `tables::structure::first_not_one` meets its contract: the loop searches. Assumes nothing.
+-- `walks::structure::first_not_one` meets its contract: the loop searches. Assumes nothing.
 use borrow.Author.Needs.{needs}
 use borrow.Author.Tests.{ne-eqb, eq-eqb}
 use Prim.Native.Nat.{_-_}

@@ -1,4 +1,4 @@
--- `tables::structure::is_bound` meets its contract. The invariant: whether the name is among the first d is known. Assumes nothing.
+-- `walks::structure::is_bound` meets its contract. The invariant: whether the name is among the first d is known. Assumes nothing.
 use borrow.Author.Needs.{needs}
 use Prim.Native.Nat.{_≤_, _-_}
 use mathlib.Core.Path.{_≡_, refl, sym}

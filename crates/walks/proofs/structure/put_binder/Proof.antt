@@ -1,4 +1,4 @@
--- `tables::structure::put_binder` meets its contract: a binder's name stands after those around it. Assumes nothing.
+-- `walks::structure::put_binder` meets its contract: a binder's name stands after those around it. Assumes nothing.
 use borrow.Author.Needs.{needs}
 use mathlib.Core.Path.{sym, _∙_}
 use native.Mathlib.Omega.{arith}

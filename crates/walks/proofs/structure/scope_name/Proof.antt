@@ -1,4 +1,4 @@
--- `tables::structure::scope_name` meets its contract: the definition's tests in turn. Assumes nothing.
+-- `walks::structure::scope_name` meets its contract: the definition's tests in turn. Assumes nothing.
 use borrow.Author.Needs.{needs}
 use borrow.Author.Tests.{lt-ltb, le-ltb}
 use mathlib.Core.Path.{refl, sym, _∙_}

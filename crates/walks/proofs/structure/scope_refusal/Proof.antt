@@ -1,4 +1,4 @@
--- `tables::structure::scope_refusal` meets its contract: the walk begins with no name. Assumes nothing.
+-- `walks::structure::scope_refusal` meets its contract: the walk begins with no name. Assumes nothing.
 use borrow.Author.Needs.{needs}
 use Prim.Native.Nat.{ℕ}
 use native.Mathlib.Omega.{arith}

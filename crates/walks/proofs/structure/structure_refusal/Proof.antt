@@ -1,4 +1,4 @@
--- `tables::structure::structure_refusal` meets its contract: what the walks find is what the definition says of a script whose
+-- `walks::structure::structure_refusal` meets its contract: what the walks find is what the definition says of a script whose
 -- nodes the words hold (`words-agree`). Assumes nothing.
 use borrow.Author.Needs.{needs}
 use mathlib.Core.Path.{sym, _∙_}

@@ -1,14 +1,14 @@
--- `tables::structure::tall_over` meets its contract: the node's own height, and the lower of the places. Assumes nothing.
+-- `walks::structure::height_over` meets its contract: the node's own height, and the lower of the places. Assumes nothing.
 use borrow.Author.Needs.{needs}
 use native.Mathlib.Omega.{arith}
 use Rattle.lambdamix.specs.Limits.{maxHeight}
 use Rattle.walks.proofs.Heights.{node-low, node-crosses, node-passes-on, node-keeps-own}
-use Rattle.walks.proofs.structure.tall_over.Statement.{statement}
-use Rattle.walks.proofs.structure.tall_over.Tie as tie
+use Rattle.walks.proofs.structure.height_over.Statement.{statement}
+use Rattle.walks.proofs.structure.height_over.Tie as tie
 
-pub tall-over-spec : {M : Type 1} → statement M
+pub height-over-spec : {M : Type 1} → statement M
 unfolding maxHeight
-tall-over-spec =
+height-over-spec =
     tie.close
     (tie.spec
     (λ c. search needs)

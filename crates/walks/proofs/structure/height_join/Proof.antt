@@ -1,13 +1,13 @@
--- `tables::structure::tall_join` meets its contract: two heights, two places, or one of each. Assumes nothing.
+-- `walks::structure::height_join` meets its contract: two heights, two places, or one of each. Assumes nothing.
 use native.Mathlib.Omega.{arith}
 use Rattle.lambdamix.specs.Limits.{maxHeight}
 use Rattle.walks.proofs.Heights.{join-second, join-places-first, join-first, join-places-second}
-use Rattle.walks.proofs.structure.tall_join.Statement.{statement}
-use Rattle.walks.proofs.structure.tall_join.Tie as tie
+use Rattle.walks.proofs.structure.height_join.Statement.{statement}
+use Rattle.walks.proofs.structure.height_join.Tie as tie
 
-pub tall-join-spec : {M : Type 1} → statement M
+pub height-join-spec : {M : Type 1} → statement M
 unfolding maxHeight
-tall-join-spec =
+height-join-spec =
     tie.close
     (tie.spec
     (λ c. join-second (omega arith) (omega arith))
