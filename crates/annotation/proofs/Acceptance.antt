@@ -7,7 +7,7 @@ use Rattle.lambdamix.specs.Script.{root}
 use Rattle.lambdamix.specs.Term.{tree}
 use Rattle.lambdamix.specs.Types.{D}
 use Rattle.lambdamix.specs.Typing.{_∣_⊢_∶_, inputContext}
-use Rattle.lambdamix.specs.Structure.{orElse}
+use Rattle.lambdamix.specs.Refusal.{orElse}
 use Rattle.lambdamix.proofs.Checking.{checker-accepts}
 use Rattle.script.specs.Tables.{Tables, tablesScript, tablesRefusal}
 use Rattle.script.proofs.RefusalLaws.{neither}

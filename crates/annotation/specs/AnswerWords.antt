@@ -8,7 +8,8 @@ use lib.Dec.{eqb, leb, ltb}
 use lib.ListN.{getD}
 use Rattle.lambdamix.specs.Script.{Script}
 use Rattle.lambdamix.specs.Types.{Ty, typeOf, typeCount}
-use Rattle.lambdamix.specs.Checker.{Refusal, Checked, typed, faulty}
+use Rattle.lambdamix.specs.Refusal.{Refusal}
+use Rattle.lambdamix.specs.Checker.{Checked, typed, faulty}
 use Rattle.script.specs.declared.Counts.{Counts}
 use Rattle.script.specs.Tables.{Tables, tablesRefusal}
 

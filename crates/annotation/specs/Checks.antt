@@ -3,8 +3,8 @@
 use Prim.Native.Nat.{ℕ}
 use mathlib.Core.Option.{Option}
 use Rattle.lambdamix.specs.Script.{Script}
-use Rattle.lambdamix.specs.Checker.{Refusal, annotationRefusal}
-use Rattle.lambdamix.specs.Structure.{orElse}
+use Rattle.lambdamix.specs.Refusal.{Refusal, orElse}
+use Rattle.lambdamix.specs.Checker.{annotationRefusal}
 use Rattle.script.specs.declared.Counts.{Counts}
 use Rattle.script.specs.Tables.{Tables, tablesScript, tablesRefusal}
 

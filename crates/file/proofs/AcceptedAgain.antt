@@ -14,7 +14,8 @@ use borrow.Author.Tests.{leb-true, le-leb}
 use Rattle.lambdamix.specs.Limits.{maxInputs, maxNodes, maxFuel}
 use Rattle.lambdamix.specs.Script.{Script, Node, blankNode, nodeAt, inputCount}
 use Rattle.lambdamix.specs.Checker.{annotationRefusal}
-use Rattle.lambdamix.specs.Structure.{firstFailing, orElse, structureRefusal}
+use Rattle.lambdamix.specs.Refusal.{firstFailing, orElse}
+use Rattle.lambdamix.specs.Structure.{structureRefusal}
 use Rattle.lambdamix.specs.Code.{Code, fits, written}
 use Rattle.lambdamix.specs.Specializing.{specialized, finished}
 use Rattle.lambdamix.proofs.Checking.{checker-accepts}

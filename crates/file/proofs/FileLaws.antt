@@ -12,7 +12,8 @@ use lib.Dec.{eqb}
 use borrow.Author.Tests.{le-leb, eq-eqb, eqb-true}
 use Rattle.lambdamix.specs.Script.{Script, nodeAt}
 use Rattle.lambdamix.specs.Text.{ascii}
-use Rattle.lambdamix.specs.Structure.{orElse, structureRefusal, refusedUnless}
+use Rattle.lambdamix.specs.Refusal.{orElse, refusedUnless}
+use Rattle.lambdamix.specs.Structure.{structureRefusal}
 use Rattle.script.specs.Bytes.{bytes16}
 use Rattle.script.specs.File.{headBytes, typeBytes, inputBytes, nodeBytes, records, fileBytes, typeOffset, inputOffset, nodeOffset, fileLength, headTypes}
 use Rattle.script.specs.File.{headInputs, headNodes, scriptIn}

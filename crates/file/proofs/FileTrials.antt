@@ -6,13 +6,12 @@ use mathlib.Core.Option.{Option, none}
 use mathlib.Core.List.{List, map}
 use lib.ListN.{length}
 use Rattle.lambdamix.specs.Script.{Script}
-use Rattle.lambdamix.specs.Checker.{Refusal}
+use Rattle.lambdamix.specs.Refusal.{Refusal, refusedUnless}
 use Rattle.lambdamix.specs.Code.{Code, written}
 use Rattle.lambdamix.specs.Specializing.{Answer, finished, halted, specialized}
 use Rattle.lambdamix.specs.Trials.{Trial, trials, Row, inputA}
 use Rattle.lambdamix.proofs.Computing.{computing}
 use Rattle.lambdamix.proofs.Trials.{each-row}
-use Rattle.lambdamix.specs.Structure.{refusedUnless}
 use Rattle.script.specs.Bytes.{byteAt, word16, word32, signedBy, signed32, bits32, bytes16, bytes32}
 use Rattle.script.specs.File.{headBytes, typeBytes, inputBytes, nodeBytes, records, fileBytes, typeOffset, inputOffset, nodeOffset, fileLength, headTypes}
 use Rattle.script.specs.File.{headInputs, headNodes, numbered, typeFrom, inputFrom, nodeFrom, scriptIn}

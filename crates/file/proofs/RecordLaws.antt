@@ -8,7 +8,7 @@ use mathlib.Core.Option.{Option, none}
 use native.Mathlib.Nat.{mul-zero, mul-suc}
 use native.Mathlib.Omega.{arith}
 use lib.ListN.{length, getD, length-append}
-use Rattle.lambdamix.specs.Structure.{firstFailing}
+use Rattle.lambdamix.specs.Refusal.{firstFailing}
 use Rattle.script.specs.File.{records, numbered}
 use Rattle.script.specs.Refusals.{marked}
 use Rattle.file.specs.Encodable.{AllBytes}

@@ -5,7 +5,7 @@ use mathlib.Core.List.{List}
 use native.Mathlib.Omega.{arith}
 use lib.ListN.{length}
 use Rattle.lambdamix.specs.Script.{nodeCount}
-use Rattle.lambdamix.specs.Structure.{orElse, refusedUnless}
+use Rattle.lambdamix.specs.Refusal.{orElse, refusedUnless}
 use Rattle.script.specs.File.{fileBytes}
 use Rattle.script.specs.Refusals.{fileRefusal}
 use Rattle.script.specs.Tables.{Tables, tablesScript, longEnough, tablesRefusal, roomRefusal, writeRefusal}

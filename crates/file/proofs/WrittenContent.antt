@@ -14,7 +14,7 @@ use lib.Signed.{mag}
 use Rattle.lambdamix.specs.declared.Operator.{Operator}
 use Rattle.lambdamix.specs.declared.Operator.the-variants.{Add, Subtract, Multiply, Divide, Equal, Less}
 use Rattle.lambdamix.specs.Limits.{maxTypes, maxInputs, maxNodes, maxHeight}
-use Rattle.lambdamix.specs.Structure.{firstFailing, orElse}
+use Rattle.lambdamix.specs.Refusal.{firstFailing, orElse}
 use Rattle.lambdamix.specs.Script.{Script, Node, rows, rowOf, fields, inputCount, nodeCount, nodeAt, blankNode}
 use Rattle.lambdamix.specs.Term.{Former, applying, fixing, choosing, operating, arity}
 use Rattle.lambdamix.specs.Code.{Code, Codes, nilC, consC, node, formNode, operatorNumber, top, after, tops, nodesFrom, allNodesFrom, written, size}

@@ -10,7 +10,8 @@ use Rattle.lambdamix.specs.Script.{Script}
 use Rattle.lambdamix.specs.Term.{Term}
 use Rattle.lambdamix.specs.Types.{Ty}
 use Rattle.lambdamix.specs.Typing.{Context, _∣_⊢_∶_}
-use Rattle.lambdamix.specs.Checker.{Refusal, Checked, typed, faulty, lower, lowerBy, both, gather}
+use Rattle.lambdamix.specs.Refusal.{Refusal}
+use Rattle.lambdamix.specs.Checker.{Checked, typed, faulty, lower, lowerBy, both, gather}
 use Rattle.lambdamix.specs.Fault.{Part, HasType, AllTyped, all-typed, and-typed, AtFault, FaultAmong, here, there, Lowest}
 
 -- A right answer: either what it gives is as P asks, there are types and there is no fault; or it tells the lowest fault, and

@@ -13,7 +13,8 @@ use Rattle.lambdamix.specs.Term.{Term, Terms, nilT, consT, arity, const,
 use Rattle.lambdamix.specs.Types.{Ty, S, D, _⇒_, sameType, typeOf, listed}
 use Rattle.lambdamix.specs.Typing.{Context, bind, typeAt, inputContext, _∣_⊢_∶_, Const, Var, Lift, Abstr, Apply, Fix, If, Op, Abstr-dyn, Dyn}
 use Rattle.lambdamix.specs.Typing.{AllDynamic, nil-dyn, cons-dyn}
-use Rattle.lambdamix.specs.Checker.{Refusal, Checked, typed, faulty, both, Verdict, gives, fails, unlisted, own, rule, provided, varRule, liftRule}
+use Rattle.lambdamix.specs.Refusal.{Refusal}
+use Rattle.lambdamix.specs.Checker.{Checked, typed, faulty, both, Verdict, gives, fails, unlisted, own, rule, provided, varRule, liftRule}
 use Rattle.lambdamix.specs.Checker.{abstrBy, abstrRule, applyRule, fixRule, ifRule, opRule, abstrDynRule, allDynamic, dynRule, gather, check, checkAll}
 use Rattle.lambdamix.specs.Checker.{rootRule, checkedRoot, annotationRefusal}
 use Rattle.lambdamix.specs.Fault.{parts, partsAmong, HasType, has-type, AllTyped, all-typed, Unlisted, not-listed, AtFault, own-9, own-10, below}

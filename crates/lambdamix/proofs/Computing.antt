@@ -8,8 +8,9 @@ use Rattle.lambdamix.specs.Types.{sameType, typeBy, typeStep, typeOf, ty
 use Rattle.lambdamix.specs.Typing.{typeAtBy, typeAt, inputTypeBy, inputType, contextFrom, inputContext}
 use Rattle.lambdamix.specs.Checker.{lowerBy, lower, both, own, rule, provided, varRule, liftRule, abstrBy, abstrRule, applyRule, fixRule, ifRule}
 use Rattle.lambdamix.specs.Checker.{opRule, abstrDynRule, allDynamic, dynRule, gather, check, rootRule, checkedRoot, annotationRefusal}
-use Rattle.lambdamix.specs.Structure.{firstBy, firstFailing, refusedAt, orElse, oneIf, occurrences, uses, usedOnce, useRefusal, lowEnough}
-use Rattle.lambdamix.specs.Structure.{heightRefusal, lowestBy, lowest, member, unlessBound, unbound, scopeRefusal, structureRefusal, refusedUnless}
+use Rattle.lambdamix.specs.Refusal.{firstBy, firstFailing, refusedAt, orElse, refusedUnless}
+use Rattle.lambdamix.specs.Structure.{oneIf, occurrences, uses, usedOnce, useRefusal, lowEnough}
+use Rattle.lambdamix.specs.Structure.{heightRefusal, lowestBy, lowest, member, unlessBound, unbound, scopeRefusal, structureRefusal}
 use Rattle.lambdamix.specs.Code.{size, codeHeight, fits, operatorNumber, formNode, top, tops, nodesFrom, written}
 use Rattle.lambdamix.specs.Value.{valueAtBy, valueAt, stopNumber, stopPlace, andThen, _>>=_, give, halt, wantNumber, wantCode, wantFunction, found}
 use Rattle.lambdamix.specs.Evaluation.{jobPlace, exactly, branchBy, branch, fresh, apply, unfoldOnce, visitAll, visited, performed, run}

@@ -10,7 +10,8 @@ use Rattle.lambdamix.specs.Script.{Script, root}
 use Rattle.lambdamix.specs.Term.{Term, tree}
 use Rattle.lambdamix.specs.Types.{Ty, S, D, _⇒_}
 use Rattle.lambdamix.specs.Typing.{Context, inputContext, _∣_⊢_∶_}
-use Rattle.lambdamix.specs.Checker.{Refusal, Checked, typed, faulty, check, rootRule, checkedRoot, annotationRefusal}
+use Rattle.lambdamix.specs.Refusal.{Refusal}
+use Rattle.lambdamix.specs.Checker.{Checked, typed, faulty, check, rootRule, checkedRoot, annotationRefusal}
 use Rattle.lambdamix.specs.Fault.{Part, AtFault, own-9, own-10, below, FaultAmong, here, there, Lowest}
 use Rattle.lambdamix.proofs.Answers.{given, told}
 use Rattle.lambdamix.proofs.Checking.{complete, sound, right-answer}

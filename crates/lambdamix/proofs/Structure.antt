@@ -15,7 +15,8 @@ use Rattle.lambdamix.specs.Term.{Term, Terms, tree}
 use Rattle.lambdamix.specs.Types.{Ty}
 use Rattle.lambdamix.specs.Typing.{Context, bind, typeAtBy, typeAt, inputType, contextFrom, inputContext, _∣_⊢_∶_, Const, Var, Lift, Abstr, Apply, Fix}
 use Rattle.lambdamix.specs.Typing.{If, Op, Abstr-dyn, Dyn, AllDynamic, nil-dyn, cons-dyn}
-use Rattle.lambdamix.specs.Structure.{firstBy, firstFailing, oneIf, occurrences, refusedAt, lowest, member, unlessBound, unbound, unboundAll}
+use Rattle.lambdamix.specs.Refusal.{firstBy, firstFailing, refusedAt}
+use Rattle.lambdamix.specs.Structure.{oneIf, occurrences, lowest, member, unlessBound, unbound, unboundAll}
 use Rattle.lambdamix.specs.Structure.{scopeRefusal}
 use Rattle.lambdamix.proofs.Tests.{or-left, or-right}
 

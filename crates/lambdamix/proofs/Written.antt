@@ -18,7 +18,8 @@ use Rattle.lambdamix.specs.Types.{D}
 use Rattle.lambdamix.specs.Typing.{Context, bind, typeAtBy, typeAt, inputTypeBy, inputType, contextFrom, inputContext, _∣_⊢_∶_, Const, Var, Lift}
 use Rattle.lambdamix.specs.Typing.{Abstr-dyn, Dyn, AllDynamic, nil-dyn, cons-dyn}
 use Rattle.lambdamix.specs.Code.{Code, Codes, lit, ref, fn, form, nilC, consC, size, codeHeight, fits, top, written}
-use Rattle.lambdamix.specs.Structure.{orElse, member, structureRefusal}
+use Rattle.lambdamix.specs.Refusal.{orElse}
+use Rattle.lambdamix.specs.Structure.{member, structureRefusal}
 use Rattle.lambdamix.specs.Demand.{DynamicInput}
 use Rattle.lambdamix.proofs.Tests.{and-both}
 use Rattle.lambdamix.proofs.Structure.{typed-scope}

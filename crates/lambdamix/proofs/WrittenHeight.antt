@@ -12,7 +12,8 @@ use Rattle.lambdamix.specs.Limits.{maxHeight}
 use Rattle.lambdamix.specs.Script.{Script, nodeCount, rows, rowOf}
 use Rattle.lambdamix.specs.Term.{build, tree, height, heights}
 use Rattle.lambdamix.specs.Code.{Code, Codes, lit, ref, fn, form, nilC, consC, codeHeight, codeHeights, top, after, nodesFrom, allNodesFrom, written}
-use Rattle.lambdamix.specs.Structure.{refusedAt, lowEnough, heightRefusal}
+use Rattle.lambdamix.specs.Refusal.{refusedAt}
+use Rattle.lambdamix.specs.Structure.{lowEnough, heightRefusal}
 use Rattle.lambdamix.proofs.Tests.{holds-or-fails}
 use Rattle.lambdamix.proofs.Structure.{none-fails}
 use Rattle.lambdamix.proofs.WrittenTree.{writtenTerm, writtenTerms, WellFormed, formed-lit, formed-ref, formed-fn, formed-form, AllWellFormed}

@@ -9,7 +9,8 @@ use lib.Dec.{ltb, eqb}
 use borrow.Author.Tests.{ltb-true, ltb-false, eqb-true, eqb-false, lt-ltb, le-ltb, eq-eqb}
 use Rattle.lambdamix.specs.Script.{Script, Node, root, rows, rowOf, fields, ifChild, childFields, children}
 use Rattle.lambdamix.specs.Code.{Code, Codes, top, after, tops, nodesFrom, allNodesFrom, written}
-use Rattle.lambdamix.specs.Structure.{refusedAt, oneIf, occurrences, uses, usedOnce, useRefusal}
+use Rattle.lambdamix.specs.Refusal.{refusedAt}
+use Rattle.lambdamix.specs.Structure.{oneIf, occurrences, uses, usedOnce, useRefusal}
 use Rattle.lambdamix.proofs.Structure.{none-fails}
 use Rattle.lambdamix.proofs.WrittenTree.{WellFormed, formed-lit, formed-ref, formed-fn, formed-form, AllWellFormed, formed-nil, formed-cons}
 use Rattle.lambdamix.proofs.WrittenTree.{form-children, written-root}

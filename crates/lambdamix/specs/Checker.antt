@@ -7,13 +7,9 @@ use mathlib.Core.Option.{Option, none, some}
 use lib.Dec.{leb}
 use Rattle.lambdamix.specs.Script.{Script, root}
 use Rattle.lambdamix.specs.Term.{Term, Terms, nilT, consT, arity, const, var, lifted, lam, app, fixed, cond, op, dlam, dyn, tree}
+use Rattle.lambdamix.specs.Refusal.{Refusal}
 use Rattle.lambdamix.specs.Types.{Ty, S, D, _⇒_, sameType, typeOf, listed}
 use Rattle.lambdamix.specs.Typing.{Context, bind, typeAt, inputContext}
-
--- a number and a place, as in "Replies without code"
-pub record Refusal : Type 0 where
-  pub number : ℕ
-  pub place : ℕ
 
 -- types, or the lowest fault
 pub data Checked (A : Type 0) : Type 0 where

@@ -8,7 +8,7 @@ use Rattle.lambdamix.specs.Script.{Script}
 use Rattle.lambdamix.specs.Term.{Term, Terms, nilT, consT, const, var, lifted, lam, app, fixed, cond, op, dlam, dyn, nodeOf}
 use Rattle.lambdamix.specs.Types.{Ty, D, _⇒_, typeOf, listed}
 use Rattle.lambdamix.specs.Typing.{Context, bind, _∣_⊢_∶_}
-use Rattle.lambdamix.specs.Checker.{Refusal}
+use Rattle.lambdamix.specs.Refusal.{Refusal}
 
 -- a term with the types of its free names
 pub record Part : Type 0 where

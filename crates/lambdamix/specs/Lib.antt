@@ -1,8 +1,10 @@
 pub mod Limits
-pub mod Arithmetic
-pub mod Falling
 pub mod Script
+pub mod Refusal
+pub mod Falling
+pub mod Arithmetic
 pub mod Term
+pub mod Structure
 pub mod Types
 pub mod Typing
 pub mod Checker
@@ -11,7 +13,6 @@ pub mod Code
 pub mod Value
 pub mod Evaluation
 pub mod Rules
-pub mod Structure
 pub mod Specializing
 pub mod Demand
 pub mod Text

@@ -1,6 +1,6 @@
 -- The structure of a script's tree: refusals 6, 7 and 8 of paper 01, each with its lowest place, for tables that pass 1 to 5.
 -- Assumes nothing.
-use Prim.Native.Nat.{ℕ, zero, suc, _+_}
+use Prim.Native.Nat.{ℕ, _+_}
 use mathlib.Core.Bool.{Bool, true, false, _||_}
 use mathlib.Core.List.{List, [], _∷_}
 use mathlib.Core.Option.{Option, none, some}
@@ -8,29 +8,7 @@ use lib.Dec.{leb, ltb, eqb}
 use Rattle.lambdamix.specs.Limits.{maxHeight}
 use Rattle.lambdamix.specs.Script.{Script, Node, children, inputCount, nodeCount, root}
 use Rattle.lambdamix.specs.Term.{Term, Terms, nilT, consT, const, var, lifted, lam, app, fixed, cond, op, dlam, dyn, tree, height}
-use Rattle.lambdamix.specs.Checker.{Refusal}
-
-unfoldable pub firstBy : Bool → ℕ → Option ℕ → Option ℕ
-firstBy true i r = r
-firstBy false i r = some i
-
--- the first of the n numbers from i at which a test fails
-unfoldable pub firstFailing : (ℕ → Bool) → ℕ → ℕ → Option ℕ
-firstFailing p i zero = none
-firstFailing p i (suc n) = firstBy (p i) i (firstFailing p (suc i) n)
-
-unfoldable pub refusedAt : ℕ → Option ℕ → Option Refusal
-refusedAt k none = none
-refusedAt k (some i) = some (record { number = k; place = i })
-
--- a refusal, unless a test holds
-unfoldable pub refusedUnless : Bool → ℕ → ℕ → Option Refusal
-refusedUnless true k p = none
-refusedUnless false k p = some (record { number = k; place = p })
-
-unfoldable pub orElse : {A : Type 0} → Option A → Option A → Option A
-orElse none r = r
-orElse (some a) r = some a
+use Rattle.lambdamix.specs.Refusal.{Refusal, orElse, firstFailing, refusedAt}
 
 unfoldable pub oneIf : Bool → ℕ
 oneIf true = 1

@@ -13,8 +13,8 @@ use borrow.Author.Tests.{ltb-true, ltb-false, lt-ltb, le-ltb, le-leb, eq-eqb, eq
 use Rattle.lambdamix.specs.Limits.{maxNodes, maxBytes}
 use Rattle.lambdamix.specs.Falling.{guarded, below}
 use Rattle.lambdamix.specs.Script.{Script, Node, nodeAt, nodeCount, inputCount, root, children, blankNode}
-use Rattle.lambdamix.specs.Checker.{Refusal}
-use Rattle.lambdamix.specs.Structure.{oneIf, occurrences, uses, member, orElse, refusedUnless}
+use Rattle.lambdamix.specs.Refusal.{Refusal, orElse, refusedUnless}
+use Rattle.lambdamix.specs.Structure.{oneIf, occurrences, uses, member}
 use Rattle.lambdamix.specs.Term.{tree}
 use Rattle.lambdamix.specs.Text.{ascii, digits}
 use Rattle.lambdamix.specs.Listing.{termText, listing}

@@ -2,8 +2,7 @@
 use Prim.Native.Nat.{ℕ}
 use mathlib.Core.List.{List}
 use mathlib.Core.Option.{Option}
-use Rattle.lambdamix.specs.Checker.{Refusal}
-use Rattle.lambdamix.specs.Structure.{orElse}
+use Rattle.lambdamix.specs.Refusal.{Refusal, orElse}
 use Rattle.lambdamix.specs.Listing as Text
 use Rattle.script.specs.declared.Counts.{Counts}
 use Rattle.script.specs.declared.Writing.{Writing}

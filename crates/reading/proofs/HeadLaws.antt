@@ -5,7 +5,7 @@ use mathlib.Core.Bool.{Bool}
 use mathlib.Core.List.{List}
 use lib.ListN.{length}
 use lib.Dec.{leb, eqb}
-use Rattle.lambdamix.specs.Structure.{orElse, refusedUnless}
+use Rattle.lambdamix.specs.Refusal.{orElse, refusedUnless}
 use Rattle.script.specs.declared.Counts.{Counts}
 use Rattle.script.specs.File.{fileLength, headTypes, headInputs, headNodes}
 use Rattle.script.specs.Refusals.{countsRight, headMarked, headRefusal}

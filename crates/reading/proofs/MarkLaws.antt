@@ -10,8 +10,7 @@ use native.Mathlib.Omega.{arith}
 use lib.ListN.{length, List·getD-eq-default}
 use lib.Dec.{eqb}
 use borrow.Author.Tests.{eq-eqb, ne-eqb, eqb-true, eqb-false}
-use Rattle.lambdamix.specs.Checker.{Refusal}
-use Rattle.lambdamix.specs.Structure.{firstFailing}
+use Rattle.lambdamix.specs.Refusal.{Refusal, firstFailing}
 use Rattle.lambdamix.proofs.Tests.{holds-or-fails}
 use Rattle.script.specs.Bytes.{byteAt}
 use Rattle.script.specs.File.{typeOffset, inputOffset, nodeOffset}

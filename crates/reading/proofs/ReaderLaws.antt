@@ -9,10 +9,11 @@ use native.Mathlib.Omega.{arith}
 use lib.ListN.{length}
 use lib.Dec.{leb, ltb}
 use borrow.Author.Tests.{leb-true, leb-false, le-leb, lt-ltb, le-ltb}
-use Rattle.lambdamix.specs.Checker as Checker
+use Rattle.lambdamix.specs.Refusal as Lambdamix
 use Rattle.lambdamix.specs.Limits.{maxTypes, maxInputs, maxNodes}
 use Rattle.lambdamix.specs.Script.{Script}
-use Rattle.lambdamix.specs.Structure.{orElse, refusedUnless, useRefusal, heightRefusal, scopeRefusal, structureRefusal}
+use Rattle.lambdamix.specs.Refusal.{orElse, refusedUnless}
+use Rattle.lambdamix.specs.Structure.{useRefusal, heightRefusal, scopeRefusal, structureRefusal}
 use Rattle.lambdamix.proofs.Tests.{holds-or-fails}
 use Rattle.script.specs.declared.Counts.{Counts}
 use Rattle.script.specs.declared.Refusal.{Refusal}
@@ -75,20 +76,20 @@ fits-long n x f =
 
 -- ---- the body
 
-content-number : (s : Script) {f : Checker.Refusal} → contentRefusal s ≡ some f → f .number < 6
+content-number : (s : Script) {f : Lambdamix.Refusal} → contentRefusal s ≡ some f → f .number < 6
 unfolding contentRefusal contentOf
 content-number s e =
     ⊎-elim (λ p. omega (arith, record-number 4 _ _ p))
     (λ q. ⊎-elim (λ p. omega (arith, record-number 4 _ _ p)) (λ p. omega (arith, record-number 5 _ _ p)) (either-some _ _ q)) (either-some _ _ e)
 
-structure-number : (s : Script) {f : Checker.Refusal} → structureRefusal s ≡ some f → 6 ≤ f .number
+structure-number : (s : Script) {f : Lambdamix.Refusal} → structureRefusal s ≡ some f → 6 ≤ f .number
 unfolding structureRefusal useRefusal heightRefusal scopeRefusal
 structure-number s e =
     ⊎-elim (λ p. omega (arith, node-number 6 _ p))
     (λ q. ⊎-elim (λ p. omega (arith, node-number 7 _ p)) (λ p. omega (arith, node-number 8 _ p)) (either-some _ _ q)) (either-some _ _ e)
 
 -- A mark beside all that is refused of records is a mark beside 3 to 5, then 6 to 8.
-marks-between : (m c s : Option Checker.Refusal) → ((f : Checker.Refusal) → c ≡ some f → f .number < 6) → ((f : Checker.Refusal) → s ≡ some f → 6 ≤ f .number)
+marks-between : (m c s : Option Lambdamix.Refusal) → ((f : Lambdamix.Refusal) → c ≡ some f → f .number < 6) → ((f : Lambdamix.Refusal) → s ≡ some f → 6 ≤ f .number)
     → marksFirst m (orElse c s) ≡ orElse (earlier m c) s
 unfolding marksFirst orElse earlier earlierBy
 marks-between none c s h k = refl
@@ -119,13 +120,13 @@ tables-by-records bs x held right long = pass-over 1 0 _ long ∙ ap scriptRefus
 pub body-by-tables : (bs : List ℕ) {n : Counts} → n ≡ headCounts bs
     → countsRight (headTypes bs) (headInputs bs) (headNodes bs) ≡ true
     → {x : Tables} (old : Tables) → x ≡ filled (scriptBy n bs) old → FillFits n x
-    → {r m t : Option Checker.Refusal} → m ≡ markRefusal bs (n .types) (n .inputs) (n .nodes) → t ≡ tablesRefusal (n .types) (n .inputs) (n .nodes) x
+    → {r m t : Option Lambdamix.Refusal} → m ≡ markRefusal bs (n .types) (n .inputs) (n .nodes) → t ≡ tablesRefusal (n .types) (n .inputs) (n .nodes) x
     → r ≡ marksFirst m t → r ≡ bodyRefusal bs
 unfolding bodyRefusal headCounts
 body-by-tables bs {n} e right {x} old held fits {m = m} marks told p =
     p
     ∙ ap (marksFirst m) (told ∙ ap (λ (c : Counts). tablesRefusal (c .types) (c .inputs) (c .nodes) x) e ∙ tables-by-records bs x script-is right long)
-    ∙ ap (λ (o : Option Checker.Refusal). marksFirst o (orElse (contentRefusal (scriptIn bs)) (structureRefusal (scriptIn bs))))
+    ∙ ap (λ (o : Option Lambdamix.Refusal). marksFirst o (orElse (contentRefusal (scriptIn bs)) (structureRefusal (scriptIn bs))))
     (marks ∙ ap (λ (c : Counts). markRefusal bs (c .types) (c .inputs) (c .nodes)) e)
     ∙ marks-between _ _ _ (λ f q. content-number (scriptIn bs) q) (λ f q. structure-number (scriptIn bs) q)
   where
@@ -176,7 +177,7 @@ pub counts-fit : (bs : List ℕ) (x : Tables) {r : Reading} {m : Counts} → r �
 unfolding readReply reading orElse refusedUnless headCounts
 counts-fit bs x p c = rw (c, p) (go (fileRefusal bs) (longFor bs x) refl)
   where
-    go : (f : Option Checker.Refusal) (long : Bool) → longFor bs x ≡ long → FillFits (countsRead (reading (orElse f (refusedUnless long 21
+    go : (f : Option Lambdamix.Refusal) (long : Bool) → longFor bs x ≡ long → FillFits (countsRead (reading (orElse f (refusedUnless long 21
         0)) (headCounts bs))) x
     go none true e = fill-fits (headCounts bs) x e
     go none false e = none-fits x
@@ -188,7 +189,7 @@ pub reads-by : (bs : List ℕ) (x y : Tables) {r : Reading} {m : Counts} → r �
 unfolding readReply readRefusal longEnough enough reading orElse refusedUnless readTables headCounts
 reads-by bs x y p c h = record { reply = ap readingReply p ∙ reading-reply _ _; tables = rw (c, p) at h ∙ go (fileRefusal bs) (longFor bs x) }
   where
-    go : (f : Option Checker.Refusal) (long : Bool)
+    go : (f : Option Lambdamix.Refusal) (long : Bool)
         → filled (scriptBy (countsRead (reading (orElse f (refusedUnless long 21 0)) (headCounts bs))) bs) x ≡ readTables (orElse f
         (refusedUnless long 21 0)) bs x
     go none true = ap (λ (s : Script). filled s x) (by-head bs refl)

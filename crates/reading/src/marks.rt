@@ -11,7 +11,7 @@ use script::place::node_offset;
 use script::place::type_offset;
 ghost use mathlib.Core.Path.{_≡_};
 ghost use Prim.Native.Nat.{_+_, _*_};
-ghost use Rattle.lambdamix.specs.Structure.{firstFailing};
+ghost use Rattle.lambdamix.specs.Refusal.{firstFailing};
 ghost use Rattle.script.specs.Refusals.{marked, refusedRecord, markRefusal};
 ghost use Rattle.script.specs.Verdicts.{refusalOf};
 

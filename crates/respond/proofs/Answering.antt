@@ -14,7 +14,8 @@ use borrow.Author.Tests.{le-leb, leb-true}
 use Rattle.lambdamix.specs.declared.Mode.the-variants.{Making}
 use Rattle.lambdamix.specs.Limits.{maxInputs, maxNodes, maxHeight, maxFuel, programFuel, maxBytes}
 use Rattle.lambdamix.specs.Script.{Script}
-use Rattle.lambdamix.specs.Checker.{Refusal, annotationRefusal}
+use Rattle.lambdamix.specs.Refusal.{Refusal, refusal}
+use Rattle.lambdamix.specs.Checker.{annotationRefusal}
 use Rattle.lambdamix.specs.Code.{Code, size, codeHeight, fits, written}
 use Rattle.lambdamix.specs.Specializing.{annotationBy, laterRefusal, specialized, finished}
 use Rattle.lambdamix.specs.Listing.{listing}
@@ -29,7 +30,7 @@ use Rattle.script.proofs.RefusalLaws.{neither}
 use Rattle.file.proofs.FileLaws.{file-refusal, read-written, script-counts, script-passes}
 use Rattle.file.proofs.AcceptedAgain.{written-again, values-fit}
 use Rattle.residual.specs.AfterRun as AfterRun
-use Rattle.residual.specs.AfterRun.{refusal, nodesIn, Made, codeMade}
+use Rattle.residual.specs.AfterRun.{nodesIn, Made, codeMade}
 use Rattle.specializer.specs.declared.Reply.{Reply}
 use Rattle.specializer.specs.declared.Reply.the-variants as Reply
 use Rattle.specializer.specs.Making.{madeUnless}

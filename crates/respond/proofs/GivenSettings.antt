@@ -12,8 +12,9 @@ use lib.Dec.{ltb, eqb}
 use borrow.Author.Tests.{ne-eqb, ltb-false}
 use Rattle.lambdamix.specs.Limits.{maxInputs, programFuel}
 use Rattle.lambdamix.specs.Script.{Script}
-use Rattle.lambdamix.specs.Checker.{Refusal, annotationRefusal}
-use Rattle.lambdamix.specs.Structure.{orElse, oneIf, refusedUnless}
+use Rattle.lambdamix.specs.Refusal.{Refusal, orElse, refusedUnless}
+use Rattle.lambdamix.specs.Checker.{annotationRefusal}
+use Rattle.lambdamix.specs.Structure.{oneIf}
 use Rattle.lambdamix.specs.Specializing.{staticInputs, callRefusal, annotationBy, laterRefusal, specialized}
 use Rattle.lambdamix.proofs.Range.{Fits}
 use Rattle.script.specs.File.{numbered}

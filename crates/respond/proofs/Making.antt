@@ -11,8 +11,7 @@ use lib.Dec.{leb}
 use Rattle.lambdamix.specs.declared.Mode.the-variants.{Making}
 use Rattle.lambdamix.specs.Limits.{programFuel}
 use Rattle.lambdamix.specs.Script.{Script}
-use Rattle.lambdamix.specs.Checker.{Refusal}
-use Rattle.lambdamix.specs.Structure.{orElse}
+use Rattle.lambdamix.specs.Refusal.{Refusal, orElse}
 use Rattle.lambdamix.specs.Code.{Code, fits, written}
 use Rattle.lambdamix.specs.Specializing.{Answer, finished, halted, specialized, laterRefusal}
 use Rattle.script.specs.declared.Counts.{Counts}

@@ -15,8 +15,7 @@ use Rattle.script.specs.declared.Refusal as Told
 use Rattle.script.specs.declared.Reading.{Reading}
 use Rattle.script.specs.declared.Reading.the-variants as Reading
 use Rattle.script.specs.Bytes.{byteAt}
-use Rattle.lambdamix.specs.Checker.{Refusal}
-use Rattle.lambdamix.specs.Structure.{refusedUnless}
+use Rattle.lambdamix.specs.Refusal.{Refusal, refusedUnless}
 use Rattle.script.specs.Refusals.{fileRefusal}
 use Rattle.script.specs.Replies.{headCounts}
 use Rattle.file.specs.Encodable.{AllBytes}

@@ -7,8 +7,7 @@ use mathlib.Core.Option.{Option, none, some}
 use lib.ListN.{length}
 use lib.Dec.{leb}
 use Rattle.lambdamix.specs.Limits.{maxBytes}
-use Rattle.lambdamix.specs.Checker.{Refusal}
-use Rattle.lambdamix.specs.Structure.{refusedUnless}
+use Rattle.lambdamix.specs.Refusal.{Refusal, refusedUnless}
 use Rattle.script.specs.Replies.{Reply, replying}
 use Rattle.script.specs.Tables.{writtenOutput}
 use Rattle.respond.specs.declared.Response.{Response}

@@ -9,7 +9,8 @@ use lib.Dec.{ltb}
 use Rattle.lambdamix.specs.declared.Mode.the-variants.{Making}
 use Rattle.lambdamix.specs.Limits.{programFuel}
 use Rattle.lambdamix.specs.Script.{Script}
-use Rattle.lambdamix.specs.Checker.{Refusal, annotationRefusal}
+use Rattle.lambdamix.specs.Refusal.{Refusal}
+use Rattle.lambdamix.specs.Checker.{annotationRefusal}
 use Rattle.lambdamix.specs.Code.{Code, size, fits, written}
 use Rattle.lambdamix.specs.Value.{stopNumber, stopPlace}
 use Rattle.lambdamix.specs.Specializing.{Answer, finished, halted, specialized, laterRefusal}

@@ -7,8 +7,7 @@ use mathlib.Core.Option.{Option, none, some}
 use mathlib.Core.Logic.{_⊎_, inl, inr}
 use lib.Dec.{leb}
 use native.Mathlib.Omega.{arith}
-use Rattle.lambdamix.specs.Checker.{Refusal}
-use Rattle.lambdamix.specs.Structure.{firstBy, firstFailing, orElse, refusedAt, refusedUnless}
+use Rattle.lambdamix.specs.Refusal.{Refusal, firstBy, firstFailing, orElse, refusedAt, refusedUnless}
 use Rattle.lambdamix.proofs.Structure.{none-fails}
 use Rattle.script.specs.Refusals.{refusedRecord, earlier, earlierBy}
 

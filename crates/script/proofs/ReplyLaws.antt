@@ -6,7 +6,7 @@ use mathlib.Core.List.{List}
 use mathlib.Core.Option.{Option, none, some}
 use native.Mathlib.Omega.{arith}
 use lib.ListN.{length}
-use Rattle.lambdamix.specs.Checker as Checker
+use Rattle.lambdamix.specs.Refusal as Lambdamix
 use Rattle.script.specs.declared.Counts.{Counts}
 use Rattle.script.specs.declared.Verdict.{Verdict}
 use Rattle.script.specs.declared.Verdict.the-variants as Verdict
@@ -25,7 +25,7 @@ carries : {A : Type 0} {a b : A} → some a ≡ some b → a ≡ b
 carries e = cc
 
 -- one reply tells one refusal
-one-refusal : {A : Type 0} (a b : A) (f g : Option Checker.Refusal) → replying f a ≡ replying g b → f ≡ g
+one-refusal : {A : Type 0} (a b : A) (f g : Option Lambdamix.Refusal) → replying f a ≡ replying g b → f ≡ g
 unfolding replying
 one-refusal a b none none e = refl
 one-refusal {A} a b none (some g) e = apart a (ap (λ (r : Reply A). r .carried) e)
@@ -38,31 +38,31 @@ verdict-reply Verdict.Passed = refl
 verdict-reply (Verdict.Refused f) = refl
 
 -- Between what a verdict refuses and what its reply tells.
-pub tells-by : {v : Verdict} {p : Option Checker.Refusal} → refusalOf v ≡ p → Tells p v
+pub tells-by : {v : Verdict} {p : Option Lambdamix.Refusal} → refusalOf v ≡ p → Tells p v
 tells-by {v} e = record { reply = verdict-reply v ∙ ap (λ p. replying p tt) e }
 
-pub told-by : {v : Verdict} {p : Option Checker.Refusal} → Tells p v → refusalOf v ≡ p
+pub told-by : {v : Verdict} {p : Option Lambdamix.Refusal} → Tells p v → refusalOf v ≡ p
 told-by {v} {p} t = one-refusal tt tt (refusalOf v) p (sym (verdict-reply v) ∙ t .reply)
 
 -- The answers of reader, writer and listing are the cases that their replies tell.
-pub reading-reply : (p : Option Checker.Refusal) (n : Counts) → readingReply (reading p n) ≡ replying p n
+pub reading-reply : (p : Option Lambdamix.Refusal) (n : Counts) → readingReply (reading p n) ≡ replying p n
 unfolding readingReply reading replying
 reading-reply none n = refl
 reading-reply (some f) n = refl
 
-pub writing-reply : (p : Option Checker.Refusal) (k : ℕ) → writingReply (writing p k) ≡ replying p k
+pub writing-reply : (p : Option Lambdamix.Refusal) (k : ℕ) → writingReply (writing p k) ≡ replying p k
 unfolding writingReply writing replying
 writing-reply none k = refl
 writing-reply (some f) k = refl
 
-is-reading : (r : Reading) (p : Option Checker.Refusal) (n : Counts) → readingReply r ≡ replying p n → r ≡ reading p n
+is-reading : (r : Reading) (p : Option Lambdamix.Refusal) (n : Counts) → readingReply r ≡ replying p n → r ≡ reading p n
 unfolding readingReply reading replying
 is-reading (Reading.Read m) none n e = ap Reading.Read (carries (ap (λ (r : Reply Counts). r .carried) e))
 is-reading (Reading.Read m) (some f) n e = apart m (ap (λ (r : Reply Counts). r .carried) e)
 is-reading (Reading.Refused g) none n e = apart n (sym (ap (λ (r : Reply Counts). r .carried) e))
 is-reading (Reading.Refused g) (some f) n e = rw (← ap (λ (r : Reply Counts). r .number) e, ← ap (λ (r : Reply Counts). r .place) e)
 
-is-writing : (r : Writing) (p : Option Checker.Refusal) (k : ℕ) → writingReply r ≡ replying p k → r ≡ writing p k
+is-writing : (r : Writing) (p : Option Lambdamix.Refusal) (k : ℕ) → writingReply r ≡ replying p k → r ≡ writing p k
 unfolding writingReply writing replying
 is-writing (Writing.Written m) none k e = ap Writing.Written (carries (ap (λ (r : Reply ℕ). r .carried) e))
 is-writing (Writing.Written m) (some f) k e = apart m (ap (λ (r : Reply ℕ). r .carried) e)
@@ -72,5 +72,5 @@ is-writing (Writing.Refused g) (some f) k e = rw (← ap (λ (r : Reply ℕ). r 
 pub read-answer : {bs : List ℕ} {x y : Tables} {r : Reading} → Reads bs x y r → r ≡ reading (readRefusal bs x) (headCounts bs)
 read-answer {bs} {x} {y} {r} h = is-reading r (readRefusal bs x) (headCounts bs) (h .reply)
 
-pub written-answer : {f : Option Checker.Refusal} {text before after : List ℕ} {r : Writing} → WritesText f text before after r → r ≡ writing f (length text)
+pub written-answer : {f : Option Lambdamix.Refusal} {text before after : List ℕ} {r : Writing} → WritesText f text before after r → r ≡ writing f (length text)
 written-answer {f} {text} {before} {after} {r} h = is-writing r f (length text) (h .reply)

@@ -4,7 +4,7 @@ use mathlib.Core.Path.{_≡_, refl, sym, ap, ap₂, _∙_}
 use mathlib.Core.Bool.{Bool, true, false}
 use mathlib.Core.Option.{Option, none, some}
 use native.Mathlib.Omega.{arith}
-use Rattle.lambdamix.specs.Structure.{firstBy, firstFailing}
+use Rattle.lambdamix.specs.Refusal.{firstBy, firstFailing}
 use Rattle.script.specs.declared.Found.{Found}
 use Rattle.script.specs.Verdicts.{foundAt, FoundBelow}
 

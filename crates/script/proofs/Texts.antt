@@ -9,8 +9,8 @@ use native.Mathlib.Omega.{arith}
 use lib.ListN.{length}
 use lib.Dec.{leb}
 use borrow.Author.Tests.{le-leb, lt-leb}
-use Rattle.lambdamix.specs.Checker as Checker
-use Rattle.lambdamix.specs.Structure.{orElse, refusedUnless}
+use Rattle.lambdamix.specs.Refusal as Lambdamix
+use Rattle.lambdamix.specs.Refusal.{orElse, refusedUnless}
 use Rattle.script.specs.declared.Refusal.{Refusal}
 use Rattle.script.specs.declared.Verdict.{Verdict}
 use Rattle.script.specs.declared.Verdict.the-variants as Verdict
@@ -36,7 +36,7 @@ module _ {text before after : List ℕ} where
       let q : leb (length text) (length before) ≡ false = lt-leb (length text) (length before) (omega arith) in
       record { reply = rw q; output = rw q p }
 
-module _ {v : Verdict} {p : Option Checker.Refusal} {text before : List ℕ} (told : refusalOf v ≡ p) where
+module _ {v : Verdict} {p : Option Lambdamix.Refusal} {text before : List ℕ} (told : refusalOf v ≡ p) where
   pub writes-passed :
       {after : List ℕ} {r : Writing} → v ≡ Verdict.Passed → Fitted text before after r →
       WritesText (orElse p (roomRefusal text before)) text before after r

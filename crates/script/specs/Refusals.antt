@@ -14,8 +14,8 @@ use Rattle.lambdamix.specs.Limits.{maxTypes, maxInputs, maxNodes}
 use Rattle.lambdamix.specs.Arithmetic.{eqZ}
 use Rattle.lambdamix.specs.Script.{Script, FunctionType, Node, rowOf, fields, nodeAt}
 use Rattle.lambdamix.specs.Types.{blankType}
-use Rattle.lambdamix.specs.Checker.{Refusal}
-use Rattle.lambdamix.specs.Structure.{firstFailing, orElse, refusedUnless, structureRefusal}
+use Rattle.lambdamix.specs.Refusal.{Refusal, firstFailing, orElse, refusedUnless}
+use Rattle.lambdamix.specs.Structure.{structureRefusal}
 use Rattle.script.specs.Bytes.{byteAt}
 use Rattle.script.specs.File.{typeOffset, inputOffset, nodeOffset, fileLength, headTypes, headInputs, headNodes, scriptIn}
 

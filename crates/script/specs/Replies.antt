@@ -6,7 +6,7 @@ use mathlib.Core.List.{List}
 use mathlib.Core.Path.{_≡_}
 use mathlib.Core.Option.{Option, none, some}
 use lib.ListN.{length}
-use Rattle.lambdamix.specs.Checker as Checker
+use Rattle.lambdamix.specs.Refusal.{Refusal}
 use Rattle.script.specs.declared.Counts.{Counts}
 use Rattle.script.specs.declared.Verdict.{Verdict}
 use Rattle.script.specs.declared.Verdict.the-variants as Verdict
@@ -25,7 +25,7 @@ pub record Reply (A : Type 0) : Type 0 where
   pub carried : Option A
 
 -- the reply where this refuses, if anything, and where a success carries a
-unfoldable pub replying : {A : Type 0} → Option Checker.Refusal → A → Reply A
+unfoldable pub replying : {A : Type 0} → Option Refusal → A → Reply A
 replying none a = record { number = 0; place = 0; carried = some a }
 replying (some f) a = record { number = f .number; place = f .place; carried = none }
 
@@ -45,7 +45,7 @@ writingReply (Writing.Written k) = record { number = 0; place = 0; carried = som
 writingReply (Writing.Refused f) = record { number = f .number; place = f .place; carried = none }
 
 -- what a check promises: that this refuses, if anything
-pub record Tells (f : Option Checker.Refusal) (r : Verdict) : Type 0 where
+pub record Tells (f : Option Refusal) (r : Verdict) : Type 0 where
   pub reply : verdictReply r ≡ replying f tt
 
 -- the counts in a file's head
@@ -58,7 +58,7 @@ pub record Reads (bs : List ℕ) (before after : Tables) (r : Reading) : Type 0 
   pub tables : after ≡ readTables (readRefusal bs before) bs before
 
 -- what is promised where a text is to be written, of the answer and of the output before and after; f tells what refuses it
-pub record WritesText (f : Option Checker.Refusal) (text before after : List ℕ) (r : Writing) : Type 0 where
+pub record WritesText (f : Option Refusal) (text before after : List ℕ) (r : Writing) : Type 0 where
   pub reply : writingReply r ≡ replying f (length text)
   pub output : after ≡ writtenOutput f text before
 

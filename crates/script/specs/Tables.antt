@@ -10,8 +10,7 @@ use lib.IntN.{ℤ}
 use lib.ListN.{length, drop}
 use lib.Dec.{leb}
 use Rattle.lambdamix.specs.Script.{Script, FunctionType, Node}
-use Rattle.lambdamix.specs.Checker.{Refusal}
-use Rattle.lambdamix.specs.Structure.{orElse, refusedUnless}
+use Rattle.lambdamix.specs.Refusal.{Refusal, orElse, refusedUnless}
 use Rattle.script.specs.File.{numbered, headTypes, headInputs, headNodes, scriptIn, fileBytes}
 use Rattle.script.specs.Refusals.{scriptRefusal, fileRefusal}
 use Rattle.script.specs.Columns.{typesIn, inputsIn, nodesIn, enough}

@@ -4,7 +4,7 @@ use Prim.Native.Nat.{ℕ, _<_}
 use mathlib.Core.List.{List}
 use mathlib.Core.Path.{_≡_}
 use mathlib.Core.Option.{Option, none, some}
-use Rattle.lambdamix.specs.Checker as Checker
+use Rattle.lambdamix.specs.Refusal.{Refusal}
 use Rattle.script.specs.declared.Counts.{Counts}
 use Rattle.script.specs.declared.Verdict.{Verdict}
 use Rattle.script.specs.declared.Verdict.the-variants as Verdict
@@ -27,16 +27,16 @@ abbrev pub FoundBelow : ℕ → Found → Type 0
 FoundBelow n f = (j : ℕ) → foundAt f ≡ some j → j < n
 
 -- what a verdict refuses, if anything: for checks within a crate
-unfoldable pub refusalOf : Verdict → Option Checker.Refusal
+unfoldable pub refusalOf : Verdict → Option Refusal
 refusalOf Verdict.Passed = none
 refusalOf (Verdict.Refused f) = some (record { number = f .number; place = f .place })
 
 -- the answers of reader, writer and listing with this reply
-unfoldable pub reading : Option Checker.Refusal → Counts → Reading
+unfoldable pub reading : Option Refusal → Counts → Reading
 reading none n = Reading.Read n
 reading (some f) n = Reading.Refused (record { number = f .number; place = f .place })
 
-unfoldable pub writing : Option Checker.Refusal → ℕ → Writing
+unfoldable pub writing : Option Refusal → ℕ → Writing
 writing none k = Writing.Written k
 writing (some f) k = Writing.Refused (record { number = f .number; place = f .place })
 

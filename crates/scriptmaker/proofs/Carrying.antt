@@ -6,7 +6,7 @@ use mathlib.Core.List.{List}
 use mathlib.Core.Option.{Option}
 use lib.IntN.{ℤ}
 use Rattle.lambdamix.specs.declared.Mode.{Mode}
-use Rattle.lambdamix.specs.Checker.{Refusal}
+use Rattle.lambdamix.specs.Refusal.{Refusal}
 use Rattle.script.specs.declared.Counts as Script
 use Rattle.script.specs.declared.Reading.{Reading}
 use Rattle.script.specs.declared.Writing.{Writing}

@@ -7,7 +7,7 @@ use mathlib.Core.Option.{Option, none, some}
 use lib.IntN.{ℤ}
 use lib.ListN.{length}
 use Rattle.lambdamix.specs.declared.Mode.{Mode}
-use Rattle.lambdamix.specs.Checker.{Refusal}
+use Rattle.lambdamix.specs.Refusal.{Refusal}
 use Rattle.script.specs.declared.Counts as Script
 use Rattle.script.specs.File.{fileBytes}
 use Rattle.script.specs.Tables.{Tables, tablesScript, readRefusal, readTables, writeRefusal, writtenOutput}

@@ -8,7 +8,7 @@ use lib.ListN.{length}
 use borrow.Author.Tests.{eq-eqb, ne-eqb, le-leb, lt-leb}
 use Rattle.lambdamix.specs.Limits.{maxFuel}
 use Rattle.lambdamix.specs.Script.{Script}
-use Rattle.lambdamix.specs.Structure.{orElse, refusedUnless}
+use Rattle.lambdamix.specs.Refusal.{orElse, refusedUnless}
 use Rattle.lambdamix.specs.Specializing.{callRefusal, staticInputs}
 
 module _ (s : Script) (zs : List ℤ) (fuel : ℕ) where

@@ -9,7 +9,7 @@ use lib.ListN.{length, take, drop, length-drop, drop-of-length-le}
 use lib.Seq.{take-at, take-all}
 use lib.Dec.{leb, ltb, eqb}
 use borrow.Author.Tests.{ltb-true, leb-true, leb-false}
-use Rattle.lambdamix.specs.Structure.{firstFailing}
+use Rattle.lambdamix.specs.Refusal.{firstFailing}
 use Rattle.script.specs.File.{numbered, headTypes, headInputs, headNodes, fileLength}
 use Rattle.script.specs.Refusals.{headMarked, countsRight, isNone}
 use Rattle.script.specs.Tables.{over}

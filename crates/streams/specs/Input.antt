@@ -6,7 +6,7 @@ use mathlib.Core.List.{List}
 use lib.IntN.{ℤ}
 use lib.ListN.{length, take, drop}
 use lib.Dec.{leb, eqb}
-use Rattle.lambdamix.specs.Structure.{firstFailing}
+use Rattle.lambdamix.specs.Refusal.{firstFailing}
 use Rattle.script.specs.Bytes.{word32, signed32}
 use Rattle.script.specs.File.{headTypes, headInputs, headNodes, fileLength, numbered}
 use Rattle.script.specs.Refusals.{countsRight, marked, headMarked, isNone}

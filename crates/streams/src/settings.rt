@@ -6,7 +6,7 @@ use script::column::put32;
 ghost use mathlib.Core.Path.{_≡_};
 ghost use Prim.Native.Nat.{_<_, _≤_};
 ghost use lib.ListN.{length};
-ghost use Rattle.lambdamix.specs.Structure.{firstFailing};
+ghost use Rattle.lambdamix.specs.Refusal.{firstFailing};
 ghost use Rattle.script.specs.File.{numbered};
 ghost use Rattle.script.specs.Refusals.{isNone};
 ghost use Rattle.script.specs.Tables.{over};

@@ -17,7 +17,7 @@ use Rattle.lambdamix.specs.declared.Use.{Use}
 use Rattle.lambdamix.specs.declared.Use.the-variants.{Nothing}
 use Rattle.lambdamix.specs.Arithmetic.{eqZ}
 use Rattle.lambdamix.specs.Script.{FunctionType, Node, rows, rowOf, fields}
-use Rattle.lambdamix.specs.Structure.{firstFailing, orElse, refusedUnless}
+use Rattle.lambdamix.specs.Refusal.{firstFailing, orElse, refusedUnless}
 use Rattle.lambdamix.proofs.Tests.{and-both}
 use Rattle.lambdamix.proofs.Signed.{held, same-bits}
 use Rattle.script.specs.Kinds.{useOf, usesTable}

@@ -13,8 +13,8 @@ use native.Mathlib.Omega.{arith}
 use Rattle.lambdamix.specs.Script.{FunctionType, Node, blankNode, nodeAt}
 use Rattle.lambdamix.specs.Types.{blankType}
 use Rattle.lambdamix.specs.Limits.{maxNodes}
-use Rattle.lambdamix.specs.Structure.{orElse, structureRefusal, refusedUnless}
-use Rattle.lambdamix.specs.Checker.{Refusal}
+use Rattle.lambdamix.specs.Refusal.{orElse, refusedUnless, Refusal}
+use Rattle.lambdamix.specs.Structure.{structureRefusal}
 use Rattle.lambdamix.proofs.Tests.{and-both}
 use Rattle.script.specs.File.{typeOffset, inputOffset, nodeOffset}
 use Rattle.script.specs.Refusals.{typeFits, inputFits, nodeFits, otherPair, samePair, refusedRecord, countsRight, contentOf, contentRefusal, scriptRefusal}

@@ -1,8 +1,7 @@
 -- Refusals 3 to 5 of counts and tables, the check of contents within `tablesRefusal`. No public contract cites this file. Assumes nothing.
 use Prim.Native.Nat.{ℕ}
 use mathlib.Core.Option.{Option}
-use Rattle.lambdamix.specs.Checker.{Refusal}
-use Rattle.lambdamix.specs.Structure.{orElse, refusedUnless}
+use Rattle.lambdamix.specs.Refusal.{Refusal, orElse, refusedUnless}
 use Rattle.script.specs.Refusals.{countsRight, contentOf}
 use Rattle.script.specs.Tables.{Tables, rowType, rowInput, rowNode}
 

@@ -21,7 +21,7 @@ ghost use lib.ListN.{length};
 ghost use lib.Dec.{eqb};
 ghost use Rattle.lambdamix.specs.Arithmetic.{eqZ};
 ghost use Rattle.lambdamix.specs.Limits.{maxNodes};
-ghost use Rattle.lambdamix.specs.Structure.{firstFailing};
+ghost use Rattle.lambdamix.specs.Refusal.{firstFailing};
 ghost use Rattle.script.specs.Refusals.{otherPair, typeFits, inputFits, fieldRight, fieldsRight, nodeFits};
 ghost use Rattle.script.specs.Verdicts.{foundAt, refusalOf};
 ghost use Rattle.lambdamix.specs.Code.{node};

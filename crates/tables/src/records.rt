@@ -8,7 +8,7 @@ use script::place::input_offset;
 use script::place::node_offset;
 use script::place::type_offset;
 ghost use mathlib.Core.Path.{_≡_};
-ghost use Rattle.lambdamix.specs.Structure.{orElse};
+ghost use Rattle.lambdamix.specs.Refusal.{orElse};
 ghost use Rattle.script.specs.File.{typeOffset, inputOffset, nodeOffset};
 ghost use Rattle.script.specs.Refusals.{refusedRecord};
 ghost use Rattle.script.specs.Verdicts.{foundAt, refusalOf, FoundBelow};

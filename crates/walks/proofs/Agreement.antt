@@ -12,8 +12,8 @@ use Rattle.lambdamix.specs.declared.Use.{Use}
 use Rattle.lambdamix.specs.declared.Use.the-variants.{Nothing, Name, Binder, Child, ParameterType, Operation}
 use Rattle.lambdamix.specs.Limits.{maxHeight}
 use Rattle.lambdamix.specs.Script.{Script, Node, rowOf, fields, ifChild, childFields, children, inputCount}
-use Rattle.lambdamix.specs.Structure.{occurrences, uses, usedOnce, useRefusal, lowEnough, heightRefusal, scopeRefusal, structureRefusal, member, firstFailing}
-use Rattle.lambdamix.specs.Structure.{refusedAt, orElse}
+use Rattle.lambdamix.specs.Refusal.{firstFailing, refusedAt, orElse}
+use Rattle.lambdamix.specs.Structure.{occurrences, uses, usedOnce, useRefusal, lowEnough, heightRefusal, scopeRefusal, structureRefusal, member}
 use Rattle.lambdamix.proofs.Tests.{and-both, or-cases}
 use Rattle.script.specs.File.{numbered}
 use Rattle.script.specs.Refusals.{fieldRight, fieldsRight, nodeFits}

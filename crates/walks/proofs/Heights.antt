@@ -13,7 +13,8 @@ use lib.Dec.{leb}
 use borrow.Author.Tests.{le-leb, lt-leb, leb-true}
 use Rattle.lambdamix.specs.Limits.{maxHeight}
 use Rattle.lambdamix.specs.Falling.{below}
-use Rattle.lambdamix.specs.Structure.{firstBy, lowest, lowestBy}
+use Rattle.lambdamix.specs.Refusal.{firstBy}
+use Rattle.lambdamix.specs.Structure.{lowest, lowestBy}
 use Rattle.lambdamix.proofs.Falling.{below-at, falling-step, below-out}
 use Rattle.script.specs.Kinds.{isChild}
 use Rattle.script.specs.declared.Row.{Row}

@@ -10,7 +10,8 @@ use native.Mathlib.Omega.{arith}
 use native.Mathlib.Nat.{le-antisymm, le-refl, eq-or-lt-of-le}
 use lib.Dec.{leb, eqb}
 use borrow.Author.Tests.{leb-true, leb-false, eqb-true, eq-eqb}
-use Rattle.lambdamix.specs.Structure.{firstBy, firstFailing, lowest, lowestBy, member}
+use Rattle.lambdamix.specs.Refusal.{firstBy, firstFailing}
+use Rattle.lambdamix.specs.Structure.{lowest, lowestBy, member}
 use Rattle.lambdamix.proofs.Tests.{or-cases, or-left, or-right}
 use Rattle.walks.specs.Walks.{gathered}
 

@@ -10,7 +10,8 @@ use native.Mathlib.Nat.{eq-or-lt-of-le, le-refl}
 use lib.Dec.{leb}
 use Rattle.lambdamix.specs.Limits.{maxHeight}
 use Rattle.lambdamix.specs.Falling.{below}
-use Rattle.lambdamix.specs.Structure.{occurrences, member, firstFailing}
+use Rattle.lambdamix.specs.Refusal.{firstFailing}
+use Rattle.lambdamix.specs.Structure.{occurrences, member}
 use Rattle.lambdamix.proofs.Falling.{below-at, falling-step}
 use Rattle.lambdamix.proofs.Structure.{occurs-member}
 use Rattle.script.specs.Words.{Columns}

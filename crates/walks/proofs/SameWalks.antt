@@ -10,7 +10,8 @@ use native.Mathlib.Omega.{arith}
 use lib.ListN.{getD}
 use Rattle.lambdamix.specs.Script.{rows}
 use Rattle.lambdamix.specs.Falling.{falling}
-use Rattle.lambdamix.specs.Structure.{firstFailing, refusedAt, orElse, structureRefusal}
+use Rattle.lambdamix.specs.Refusal.{firstFailing, refusedAt, orElse}
+use Rattle.lambdamix.specs.Structure.{structureRefusal}
 use Rattle.lambdamix.proofs.Falling.{below-same, falling-step}
 use Rattle.script.specs.declared.Row.{Row}
 use Rattle.script.specs.Kinds.{useOf, usesTable}

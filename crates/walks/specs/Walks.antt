@@ -12,7 +12,8 @@ use Rattle.lambdamix.specs.declared.Use.{Use}
 use Rattle.lambdamix.specs.declared.Use.the-variants.{Nothing, Name, Binder, Child, ParameterType, Operation}
 use Rattle.lambdamix.specs.Limits.{maxNodes, maxHeight}
 use Rattle.lambdamix.specs.Falling.{below, falling}
-use Rattle.lambdamix.specs.Structure.{firstBy, occurrences, lowest, member, unlessBound, structureRefusal}
+use Rattle.lambdamix.specs.Refusal.{firstBy}
+use Rattle.lambdamix.specs.Structure.{occurrences, lowest, member, unlessBound, structureRefusal}
 use Rattle.script.specs.Kinds.{isBinder, isChild}
 use Rattle.script.specs.declared.Row.{Row}
 use Rattle.script.specs.declared.Verdict.{Verdict}

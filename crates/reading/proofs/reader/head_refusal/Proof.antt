@@ -1,7 +1,7 @@
 -- `reading::reader::head_refusal` meets its contract: four tests in their order. Assumes nothing.
 use borrow.Author.Tests.{le-leb, lt-leb, eq-eqb, ne-eqb}
 use mathlib.Core.Path.{refl, sym, _∙_}
-use Rattle.lambdamix.specs.Structure.{orElse, refusedUnless}
+use Rattle.lambdamix.specs.Refusal.{orElse, refusedUnless}
 use Rattle.script.specs.Verdicts.{refusalOf}
 use Rattle.reading.proofs.HeadLaws.{head-by-tests, counts-told, length-told}
 use Rattle.reading.proofs.reader.head_refusal.Statement.{statement}

@@ -4,7 +4,8 @@ use mathlib.Core.Option.{Option, none}
 use Rattle.lambdamix.specs.declared.Mode.{Mode}
 use Rattle.lambdamix.specs.declared.Mode.the-variants.{Making, BareRun}
 use Rattle.lambdamix.specs.Script.{Script}
-use Rattle.lambdamix.specs.Checker.{Refusal, annotationRefusal}
+use Rattle.lambdamix.specs.Refusal.{Refusal}
+use Rattle.lambdamix.specs.Checker.{annotationRefusal}
 use Rattle.script.specs.Verdicts.{refusalOf}
 use Rattle.lambdamix.specs.Specializing.{annotationBy}
 use borrow.Author.Needs.{needs}

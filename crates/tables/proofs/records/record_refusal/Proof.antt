@@ -2,7 +2,7 @@
 use borrow.Author.Needs.{needs}
 use mathlib.Core.Path.{ap}
 use native.Mathlib.Omega.{arith}
-use Rattle.lambdamix.specs.Structure.{orElse}
+use Rattle.lambdamix.specs.Refusal.{orElse}
 use Rattle.script.specs.Refusals.{refusedRecord}
 use Rattle.script.specs.Verdicts.{foundAt, refusalOf}
 use Rattle.tables.proofs.records.record_refusal.Statement.{statement}

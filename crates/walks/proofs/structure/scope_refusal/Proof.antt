@@ -4,7 +4,7 @@ use Prim.Native.Nat.{ℕ}
 use native.Mathlib.Omega.{arith}
 use lib.ListN.{length-replicate}
 use Rattle.lambdamix.specs.Limits.{maxHeight}
-use Rattle.lambdamix.specs.Structure.{refusedAt}
+use Rattle.lambdamix.specs.Refusal.{refusedAt}
 use Rattle.script.specs.Verdicts.{refusalOf}
 use Rattle.walks.specs.Walks.{innermost}
 use Rattle.walks.proofs.Scopes.{place-none, place-some}

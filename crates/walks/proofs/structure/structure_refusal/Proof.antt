@@ -4,7 +4,7 @@ use borrow.Author.Needs.{needs}
 use mathlib.Core.Path.{sym, _∙_}
 use native.Mathlib.Omega.{arith}
 use Rattle.lambdamix.specs.Limits.{maxNodes}
-use Rattle.lambdamix.specs.Structure.{refusedAt, orElse}
+use Rattle.lambdamix.specs.Refusal.{refusedAt, orElse}
 use Rattle.script.specs.Verdicts.{foundAt, refusalOf}
 use Rattle.walks.proofs.SameWalks.{words-agree}
 use Rattle.walks.proofs.structure.structure_refusal.Statement.{statement}

@@ -1,7 +1,7 @@
 -- `walks::structure::tree_refusal` meets its contract: after the walk of heights no name stands too deep. Assumes nothing.
 use borrow.Author.Needs.{needs}
 use Rattle.lambdamix.specs.Limits.{maxHeight}
-use Rattle.lambdamix.specs.Structure.{refusedAt, orElse}
+use Rattle.lambdamix.specs.Refusal.{refusedAt, orElse}
 use Rattle.script.specs.Verdicts.{refusalOf}
 use Rattle.walks.proofs.Heights.{height-low, height-high}
 use Rattle.walks.proofs.structure.tree_refusal.Statement.{statement}
