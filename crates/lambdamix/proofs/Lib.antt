@@ -1,5 +1,6 @@
 pub mod Tests
 pub mod Falling
+pub mod KindCases
 pub mod Signed
 pub mod Answers
 pub mod Checking

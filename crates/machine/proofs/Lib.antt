@@ -1,4 +1,5 @@
 pub mod Words
+pub mod Programs
 pub mod Stands
 pub mod Nodes
 pub mod Same
