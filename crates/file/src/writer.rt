@@ -25,6 +25,17 @@ ghost use Rattle.script.specs.Replies.{Writes};
 ghost use Rattle.script.specs.Verdicts.{Fitted};
 ghost use Rattle.file.specs.Written.{Put, PutWhole, headRow, nodeParts};
 
+// Bytes are below this, in a number of 16 bits and in one of 32; then the units of the second, third and fourth byte.
+const BYTE: u16 = 256;
+
+const BYTE_32: u32 = 256;
+
+const SECOND: u32 = 256;
+
+const THIRD: u32 = 65536;
+
+const FOURTH: u32 = 16777216;
+
 // Two bytes at a place.
 fn pair_at(out: &mut [u8], at: usize, first: u8, second: u8)
     ensures { λ r. ⌜ Put (now (out .entry)) at (first ∷ second ∷ []) (now (out .exit)) ⌝ }
@@ -39,8 +50,8 @@ fn pair_at(out: &mut [u8], at: usize, first: u8, second: u8)
 fn word_at(out: &mut [u8], at: usize, v: u16)
     ensures { λ r. ⌜ Put (now (out .entry)) at (bytes16 v) (now (out .exit)) ⌝ }
 {
-    let low = (v % 256) as u8;
-    let high = (v / 256 % 256) as u8;
+    let low = (v % BYTE) as u8;
+    let high = (v / BYTE % BYTE) as u8;
     pair_at(out, at, low, high)
 }
 
@@ -80,18 +91,18 @@ fn word_inside(out: &mut [u8], at: usize, v: u16)
     requires { ⌜ at + 2 ≤ length (now out) ⌝ }
     ensures { λ r. ⌜ Put (now (out .entry)) at (bytes16 v) (now (out .exit)) ⌝ }
 {
-    out[at] = (v % 256) as u8;
-    out[at + 1] = (v / 256 % 256) as u8;
+    out[at] = (v % BYTE) as u8;
+    out[at + 1] = (v / BYTE % BYTE) as u8;
 }
 
 fn value_inside(out: &mut [u8], at: usize, w: u32)
     requires { ⌜ at + 4 ≤ length (now out) ⌝ }
     ensures { λ r. ⌜ Put (now (out .entry)) at (bytes32 w) (now (out .exit)) ⌝ }
 {
-    out[at] = (w % 256) as u8;
-    out[at + 1] = (w / 256 % 256) as u8;
-    out[at + 2] = (w / 65536 % 256) as u8;
-    out[at + 3] = (w / 16777216 % 256) as u8;
+    out[at] = (w % BYTE_32) as u8;
+    out[at + 1] = (w / SECOND % BYTE_32) as u8;
+    out[at + 2] = (w / THIRD % BYTE_32) as u8;
+    out[at + 3] = (w / FOURTH % BYTE_32) as u8;
 }
 
 fn node_inside(out: &mut [u8], at: usize, kind: u8, a: u16, b: u16, c: u16, w: u32)

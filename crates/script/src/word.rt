@@ -8,12 +8,29 @@ ghost use Rattle.script.specs.Bytes.{signed32, bits32};
 ghost use Rattle.script.specs.Words.{word, wordKind, wordA, wordB, wordC, wordValue, Holds};
 ghost use Rattle.lambdamix.specs.Code.{node};
 
+// Numbers of 16 and of 32 bits are below these, and signed ones of 32 bits below half of the second.
+pub const LIMIT_16: u64 = 65536;
+
+pub const LIMIT_32: u64 = 4294967296;
+
+const SIGNED_LIMIT: u32 = 2147483648;
+
+// What the bits of a negative number are above it.
+const WRAP: i64 = 4294967296;
+
+// The units of a word's kind, of field a and of field b; field c stands lowest.
+const KIND_UNIT: u64 = 281474976710656;
+
+const A_UNIT: u64 = 4294967296;
+
+const B_UNIT: u64 = 65536;
+
 // The bits of a signed number, and back.
 pub fn bits(z: i32) -> u32
     ensures { λ r. ⌜ r ≡ bits32 z ⌝ }
 {
     if z < 0 {
-        ((z as i64) + 4294967296) as u32
+        ((z as i64) + WRAP) as u32
     } else {
         z as u32
     }
@@ -22,41 +39,41 @@ pub fn bits(z: i32) -> u32
 pub fn signed(n: u32) -> i32
     ensures { λ r. ⌜ r ≡ signed32 n ⌝ }
 {
-    if n < 2147483648 {
+    if n < SIGNED_LIMIT {
         n as i32
     } else {
-        ((n as i64) - 4294967296) as i32
+        ((n as i64) - WRAP) as i32
     }
 }
 
 pub fn word(k: u8, a: u16, b: u16, c: u16) -> u64
     ensures { λ r. ⌜ r ≡ word k a b c ⌝ }
 {
-    281474976710656 * (k as u64) + (4294967296 * (a as u64) + (65536 * (b as u64) + (c as u64)))
+    KIND_UNIT * (k as u64) + (A_UNIT * (a as u64) + (B_UNIT * (b as u64) + (c as u64)))
 }
 
 pub fn kind(w: u64) -> u16
     ensures { λ r. ⌜ r ≡ wordKind w ⌝ }
 {
-    (w / 281474976710656) as u16
+    (w / KIND_UNIT) as u16
 }
 
 pub fn field_a(w: u64) -> u16
     ensures { λ r. ⌜ r ≡ wordA w ⌝ }
 {
-    (w / 4294967296 % 65536) as u16
+    (w / A_UNIT % LIMIT_16) as u16
 }
 
 pub fn field_b(w: u64) -> u16
     ensures { λ r. ⌜ r ≡ wordB w ⌝ }
 {
-    (w / 65536 % 65536) as u16
+    (w / B_UNIT % LIMIT_16) as u16
 }
 
 pub fn field_c(w: u64) -> u16
     ensures { λ r. ⌜ r ≡ wordC w ⌝ }
 {
-    (w % 65536) as u16
+    (w % LIMIT_16) as u16
 }
 
 // A field whose use is known: a child, a name, a parameter's type.
@@ -93,7 +110,7 @@ pub fn type_b(w: u64) -> TypeNumber
 pub fn value(w: u64) -> i32
     ensures { λ r. ⌜ r ≡ wordValue w ⌝ }
 {
-    signed((w % 4294967296) as u32)
+    signed((w % LIMIT_32) as u32)
 }
 
 // A word of a list, 0 past the end.
