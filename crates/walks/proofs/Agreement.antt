@@ -1,29 +1,31 @@
--- The structure check on columns is the definition's on the script that the tables hold. Assumes nothing.
+-- The structure check on columns that have the nodes of tables, words for instance, is the definition's on the script that the tables hold. Assumes nothing.
 use Prim.Native.Nat.{ℕ, zero, suc, _+_, _-_, _≤_, _<_}
 use mathlib.Core.Path.{_≡_, refl, sym, ap, _∙_}
 use mathlib.Core.Bool.{true, true≢false}
 use mathlib.Core.List.{List, [], _∷_}
 use mathlib.Core.Option.{Option, none, some}
-use mathlib.Core.Logic.{⊎-elim}
+use mathlib.Core.Logic.{_⊎_, inl, inr, ⊎-elim}
 use native.Mathlib.Omega.{arith}
+use native.Mathlib.Nat.{le-refl}
 use lib.Dec.{leb, ltb}
 use borrow.Author.Tests.{ltb-true, eqb-true}
 use Rattle.lambdamix.specs.declared.Use.{Use}
 use Rattle.lambdamix.specs.declared.Use.the-variants.{Nothing, Name, Binder, Child, ParameterType, Operation}
 use Rattle.lambdamix.specs.Limits.{maxHeight}
-use Rattle.lambdamix.specs.Script.{Script, Node, rowOf, fields, ifChild, childFields, children, inputCount}
+use Rattle.lambdamix.specs.Script.{Script, Node, rowOf, fields, ifChild, childFields, children, inputCount, nodeAt}
 use Rattle.lambdamix.specs.Refusal.{firstFailing, refusedAt, orElse}
 use Rattle.lambdamix.specs.Structure.{occurrences, uses, usedOnce, useRefusal, lowEnough, heightRefusal, scopeRefusal, structureRefusal, member}
 use Rattle.lambdamix.proofs.Tests.{and-both, or-cases}
 use Rattle.script.specs.File.{numbered}
 use Rattle.script.specs.Refusals.{fieldRight, fieldsRight, nodeFits}
 use Rattle.script.specs.Tables.{Tables, rowNode, tablesScript}
-use Rattle.walks.specs.Walks.{columnsOf, usesBelow, usedOnceAt, heightAt, tooHighAt, unboundAt}
+use Rattle.script.specs.Words.{Packed, Columns, columnsIn}
+use Rattle.walks.specs.Walks.{usesBelow, usedOnceAt, heightAt, tooHighAt, unboundAt}
 use Rattle.script.proofs.Rows.{input-count, node-count, root-last, node-row}
 use Rattle.script.proofs.RefusalLaws.{passes}
 use Rattle.script.proofs.Searching.{first-same}
 use Rattle.walks.proofs.Reaching.{IsChildOf, walk-finds-lowest}
-use Rattle.walks.proofs.TreeForms.{children-at, height-tree, unbound-tree}
+use Rattle.walks.proofs.TreeForms.{HasAt, children-at, height-tree, unbound-tree}
 
 -- a last node's children are counted last
 uses-more :
@@ -64,58 +66,78 @@ pub children-fall : (t n : ℕ) (f : ℕ → Node) (j m : ℕ) → nodeFits t n 
 unfolding children
 children-fall t n f j m e h = fields-fall t n j m (rowOf (f j) .uses) (fields (f j)) (fits-fields t n f j e) h
 
-module _ (t i n : ℕ) (x : Tables) where
-  script-uses : (j : ℕ) → uses (tablesScript t i n x .nodes) j ≡ usesBelow (columnsOf x) n j
-  unfolding tablesScript uses numbered usesBelow
-  script-uses = go n
-    where
-      go : (n j : ℕ) → uses (numbered (rowNode x) 0 n) j ≡ usesBelow (columnsOf x) n j
-      go zero j = refl
-      go (suc n) j =
-          let e : 0 + n ≡ n = omega arith in
-          uses-more (rowNode x) 0 n j ∙ rw (e, children-at x n, go n j)
+-- columns that have the nodes of tables
+module _ (t i n : ℕ) (x : Tables) (y : Columns) (has : (j : ℕ) → j < n → HasAt y j (rowNode x j)) where
+  script-has : (j : ℕ) → j < n → HasAt y j (nodeAt (tablesScript t i n x) j)
+  script-has j l = rw (node-row t i n x j l) (has j l)
 
-  use-agrees : useRefusal (tablesScript t i n x) ≡ refusedAt 6 (firstFailing (usedOnceAt (columnsOf x) n) 0 (n - 1))
+  script-uses : (j : ℕ) → uses (tablesScript t i n x .nodes) j ≡ usesBelow y n j
+  unfolding tablesScript uses numbered usesBelow
+  script-uses j = go n (le-refl n)
+    where
+      go : (m : ℕ) → m ≤ n → uses (numbered (rowNode x) 0 m) j ≡ usesBelow y m j
+      go zero h = refl
+      go (suc m) h =
+          let e : 0 + m ≡ m = omega arith in
+          uses-more (rowNode x) 0 m j ∙ rw (e, children-at (has m h), go m (omega arith))
+
+  use-agrees : useRefusal (tablesScript t i n x) ≡ refusedAt 6 (firstFailing (usedOnceAt y n) 0 (n - 1))
   unfolding useRefusal usedOnce usedOnceAt
   use-agrees =
       ap (refusedAt 6) (ap (firstFailing (usedOnce (tablesScript t i n x)) 0) (root-last t i n x)
-      ∙ first-same (usedOnce (tablesScript t i n x)) (usedOnceAt (columnsOf x) n) 0 (n - 1) (λ j l. rw (script-uses j)))
+      ∙ first-same (usedOnce (tablesScript t i n x)) (usedOnceAt y n) 0 (n - 1) (λ j l. rw (script-uses j)))
 
-  scope-agrees : 1 ≤ n → scopeRefusal (tablesScript t i n x) ≡ refusedAt 8 (unboundAt (columnsOf x) i (n - 1) [])
+  scope-agrees : 1 ≤ n → scopeRefusal (tablesScript t i n x) ≡ refusedAt 8 (unboundAt y i (n - 1) [])
   unfolding scopeRefusal inputCount
   scope-agrees h =
-      ap (refusedAt 8) (rw (root-last t i n x, input-count t i n x) (unbound-tree x (tablesScript t i n x) n (node-row t i n x) i [] (n - 1) (omega arith)))
+      ap (refusedAt 8) (rw (root-last t i n x, input-count t i n x) (unbound-tree (tablesScript t i n x) n y script-has i [] (n - 1) (omega arith)))
 
   module _ (fit : (j : ℕ) → j < n → nodeFits t i (rowNode x) j ≡ true) where
-    script-falls : (j m : ℕ) → j < n → IsChildOf (columnsOf x) j m → m < j
-    script-falls j m l c = children-fall t i (rowNode x) j m (fit j l) (rw (sym (children-at x j)) at c)
+    script-falls : (j m : ℕ) → j < n → IsChildOf y j m → m < j
+    script-falls j m l c = children-fall t i (rowNode x) j m (fit j l) (rw (sym (children-at (has j l))) at c)
 
     height-agrees :
-        1 ≤ n → firstFailing (usedOnceAt (columnsOf x) n) 0 (n - 1) ≡ none
-        → heightRefusal (tablesScript t i n x) ≡ refusedAt 7 (tooHighAt (columnsOf x) (n - 1))
+        1 ≤ n → firstFailing (usedOnceAt y n) 0 (n - 1) ≡ none
+        → heightRefusal (tablesScript t i n x) ≡ refusedAt 7 (tooHighAt y (n - 1))
     unfolding heightRefusal lowEnough usedOnceAt
     height-agrees h e =
         ap (refusedAt 7) (ap (firstFailing (lowEnough (tablesScript t i n x)) 0) (node-count t i n x)
-        ∙ first-same (lowEnough (tablesScript t i n x)) (λ j. leb (heightAt (columnsOf x) j) maxHeight) 0 n
-        (λ j l. rw (height-tree x (tablesScript t i n x) n (node-row t i n x) j (omega arith)))
-        ∙ sym (walk-finds-lowest (columnsOf x) n script-falls h
-        (λ j l. eqb-true _ 1 (passes (usedOnceAt (columnsOf x) n) (n - 1) e j l))))
+        ∙ first-same (lowEnough (tablesScript t i n x)) (λ j. leb (heightAt y j) maxHeight) 0 n
+        (λ j l. rw (height-tree (tablesScript t i n x) n y script-has j (omega arith)))
+        ∙ sym (walk-finds-lowest y n script-falls h (λ j l. eqb-true _ 1 (passes (usedOnceAt y n) (n - 1) e j l))))
 
     -- Refusals 6, 7 and 8 of the script are what the walks on the columns find.
     pub structure-agrees :
         1 ≤ n
         → structureRefusal (tablesScript t i n x)
-        ≡ orElse (refusedAt 6 (firstFailing (usedOnceAt (columnsOf x) n) 0 (n - 1)))
-        (orElse (refusedAt 7 (tooHighAt (columnsOf x) (n - 1))) (refusedAt 8 (unboundAt (columnsOf x) i (n - 1) [])))
+        ≡ orElse (refusedAt 6 (firstFailing (usedOnceAt y n) 0 (n - 1)))
+        (orElse (refusedAt 7 (tooHighAt y (n - 1))) (refusedAt 8 (unboundAt y i (n - 1) [])))
     unfolding structureRefusal refusedAt orElse
     structure-agrees h =
-        rw (use-agrees, scope-agrees h) (go (firstFailing (usedOnceAt (columnsOf x) n) 0 (n - 1)) (height-agrees h))
+        rw (use-agrees, scope-agrees h) (go (firstFailing (usedOnceAt y n) 0 (n - 1)) (height-agrees h))
       where
         s : Script
         s = tablesScript t i n x
 
-        go : (r : Option ℕ) → (r ≡ none → heightRefusal s ≡ refusedAt 7 (tooHighAt (columnsOf x) (n - 1)))
-            → orElse (refusedAt 6 r) (orElse (heightRefusal s) (refusedAt 8 (unboundAt (columnsOf x) i (n - 1) [])))
-            ≡ orElse (refusedAt 6 r) (orElse (refusedAt 7 (tooHighAt (columnsOf x) (n - 1))) (refusedAt 8 (unboundAt (columnsOf x) i (n - 1) [])))
+        go : (r : Option ℕ) → (r ≡ none → heightRefusal s ≡ refusedAt 7 (tooHighAt y (n - 1)))
+            → orElse (refusedAt 6 r) (orElse (heightRefusal s) (refusedAt 8 (unboundAt y i (n - 1) [])))
+            ≡ orElse (refusedAt 6 r) (orElse (refusedAt 7 (tooHighAt y (n - 1))) (refusedAt 8 (unboundAt y i (n - 1) [])))
         go none e = rw (e refl)
         go (some j) e = refl
+
+zero-or : {B : Type 0} (k : ℕ) → ((k ≡ 0 → ⊥) → B) → (k ≡ 0) ⊎ B
+zero-or zero f = inl refl
+zero-or (suc k) f = inr (f (λ e. omega arith))
+
+packed-has : {n : ℕ} {f : ℕ → Node} {ws : List ℕ} → Packed n f ws → (j : ℕ) → j < n → HasAt (columnsIn ws) j (f j)
+packed-has {f} p j l =
+    let h = p .each j l in
+    record { kind = h .kind; fields = zero-or (f j .kind) (λ z. (h .a z, (h .b z, h .c z))) }
+
+-- Refusals 6, 7 and 8 of the script are what the walks find on words that hold its nodes.
+pub words-agree :
+    (t i n : ℕ) (x : Tables) (ws : List ℕ) → Packed n (rowNode x) ws → ((j : ℕ) → j < n → nodeFits t i (rowNode x) j ≡ true) → 1 ≤ n
+    → structureRefusal (tablesScript t i n x)
+    ≡ orElse (refusedAt 6 (firstFailing (usedOnceAt (columnsIn ws) n) 0 (n - 1)))
+    (orElse (refusedAt 7 (tooHighAt (columnsIn ws) (n - 1))) (refusedAt 8 (unboundAt (columnsIn ws) i (n - 1) [])))
+words-agree t i n x ws p fit h = structure-agrees t i n x (columnsIn ws) (packed-has p) fit h

@@ -6,4 +6,3 @@ pub mod Reaching
 pub mod Scopes
 pub mod TreeForms
 pub mod Agreement
-pub mod SameWalks

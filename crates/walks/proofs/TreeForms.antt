@@ -5,6 +5,7 @@ use mathlib.Core.Path.{_≡_, refl, sym, ap, _∙_, fun-ext}
 use mathlib.Core.Bool.{Bool, true, false}
 use mathlib.Core.List.{List, [], _∷_}
 use mathlib.Core.Option.{Option}
+use mathlib.Core.Logic.{_⊎_, ⊎-elim}
 use native.Mathlib.Omega.{arith}
 use lib.ListN.{getD}
 use lib.Dec.{ltb}
@@ -17,10 +18,10 @@ use Rattle.lambdamix.specs.Term.{Term, blankTerm, childAt, build, terms, treeSt
 use Rattle.lambdamix.specs.Structure.{lowest, unbound}
 use Rattle.lambdamix.proofs.Falling.{falling-step}
 use Rattle.script.specs.declared.Row as kinds
-use Rattle.script.specs.Kinds.{isChild, useOf}
+use Rattle.script.specs.Kinds.{isChild, useOf, usesTable}
 use Rattle.script.specs.KindRows.{rowAt}
-use Rattle.script.specs.Tables.{Tables, rowNode}
-use Rattle.walks.specs.Walks.{columnsOf, keptIf, rowChildren, childrenAt, gathered, heightStep, heightAt, unboundName, unboundField, unboundFields}
+use Rattle.script.specs.Words.{Columns}
+use Rattle.walks.specs.Walks.{keptIf, rowChildren, childrenAt, gathered, heightStep, heightAt, unboundName, unboundField, unboundFields}
 use Rattle.walks.specs.Walks.{unboundBy, unboundStep, unboundAt}
 use Rattle.script.proofs.TableLaws.{row-uses}
 use Rattle.walks.proofs.Heights.{lowest-none}
@@ -120,35 +121,68 @@ kept-fields (u ∷ v ∷ w ∷ []) f g h =
 kept-fields (u ∷ v ∷ w ∷ z ∷ us) f g h =
     child-by-use u f _ ∙ ap (keptIf (isChild u) f) (child-by-use v g _ ∙ ap (keptIf (isChild v) g) (child-by-use w h []))
 
-module _ (x : Tables) where
-  row-at : (i : ℕ) → firstThree (rowOf (rowNode x i) .uses) ≡ rowAt (getD (x .kinds) i 0)
-  unfolding rowAt useOf rowNode
-  row-at i = ap firstThree (row-uses (rowNode x i))
+row-at : (d : Node) → firstThree (rowOf d .uses) ≡ rowAt (d .kind)
+unfolding rowAt useOf
+row-at d = ap firstThree (row-uses d)
 
-  -- the children of a node of the tables
-  pub children-at : (i : ℕ) → children (rowNode x i) ≡ childrenAt (columnsOf x) i
-  unfolding children childrenAt fields rowNode
-  children-at i =
-      kept-fields (rowOf (rowNode x i) .uses) (getD (x .a) i 0) (getD (x .b) i 0) (getD (x .c) i 0) ∙ rw (row-at i)
+-- the columns have the node at i: its kind, and the fields of any but a constant, which uses none
+pub record HasAt (y : Columns) (i : ℕ) (d : Node) : Type 0 where
+  pub kind : y .kind i ≡ d .kind
+  pub fields : (d .kind ≡ 0) ⊎ ((y .a i ≡ d .a) × ((y .b i ≡ d .b) × (y .c i ≡ d .c)))
 
-  module _ (s : Script) (n : ℕ) (at : (i : ℕ) → i < n → nodeAt s i ≡ rowNode x i) where
-    -- The walk's height is the height of the tree.
-    pub height-tree : (i : ℕ) → i < n → height (tree s i) ≡ heightAt (columnsOf x) i
-    unfolding treeStep children heightAt heightStep height
-    height-tree i l = tree-fold height (heightStep (columnsOf x)) s n step (suc i) i (omega arith) l
-      where
-        step : (self : ℕ → Term) (i : ℕ) → i < n → height (treeStep s self i) ≡ heightStep (columnsOf x) (λ m. height (self m)) i
-        step self i l =
-            rw (at i l) (high-row i (rowNode x i) self ∙ ap (λ (ms : List ℕ). suc (gathered max 0 (λ m. height (self m)) ms)) (children-at i))
+constant-children : (a b c a′ b′ c′ : ℕ) → rowChildren (rowAt 0) a b c ≡ rowChildren (rowAt 0) a′ b′ c′
+unfolding rowChildren rowAt useOf usesTable rows keptIf
+constant-children a b c a′ b′ c′ = refl
 
-    -- The walk's unbound variable is the one of the tree.
-    pub unbound-tree : (k : ℕ) (xs : List ℕ) (i : ℕ) → i < n → unbound k xs (tree s i) ≡ unboundAt (columnsOf x) k i xs
-    unfolding treeStep children rowNode unboundAt unboundStep unbound
-    unbound-tree k xs i l =
-        ap (λ (f : List ℕ → Option ℕ). f xs)
-        (tree-fold (λ t ys. unbound k ys t) (unboundStep (columnsOf x) k) s n step (suc i) i (omega arith) l)
-      where
-        step : (self : ℕ → Term) (i : ℕ) → i < n
-            → (λ ys. unbound k ys (treeStep s self i)) ≡ unboundStep (columnsOf x) k (λ m ys. unbound k ys (self m)) i
-        step self i l =
-            fun-ext (λ ys. rw (at i l) (scoped-row k ys i (rowNode x i) self ∙ rw (row-at i)))
+constant-scope :
+    (n : ℕ) (self : ℕ → List ℕ → Option ℕ) (i : ℕ) (xs : List ℕ) (a b c a′ b′ c′ : ℕ)
+    → unboundBy n self i xs (rowAt 0) a b c ≡ unboundBy n self i xs (rowAt 0) a′ b′ c′
+unfolding unboundBy unboundFields unboundField rowAt useOf usesTable rows keptIf
+constant-scope n self i xs a b c a′ b′ c′ = refl
+
+module _ {y : Columns} {i : ℕ} {d : Node} (has : HasAt y i d) where
+  -- what is told by the row of the kind, if the row of a constant tells nothing of the fields
+  by-row :
+      {A : Type 0} (f : kinds.Row → ℕ → ℕ → ℕ → A) → ((a b c a′ b′ c′ : ℕ) → f (rowAt 0) a b c ≡ f (rowAt 0) a′ b′ c′)
+      → f (rowAt (d .kind)) (d .a) (d .b) (d .c) ≡ f (rowAt (y .kind i)) (y .a i) (y .b i) (y .c i)
+  by-row f z = ⊎-elim (λ e. constant e (has .kind ∙ e)) (λ e. rw (has .kind, e .0, e .1 .0, e .1 .1)) (has .fields)
+    where
+      constant :
+          d .kind ≡ 0 → y .kind i ≡ 0
+          → f (rowAt (d .kind)) (d .a) (d .b) (d .c) ≡ f (rowAt (y .kind i)) (y .a i) (y .b i) (y .c i)
+      constant e g = rw (e, g) (z _ _ _ _ _ _)
+
+  -- the children of the node
+  pub children-at : children d ≡ childrenAt y i
+  unfolding children childrenAt fields
+  children-at =
+      kept-fields (rowOf d .uses) (d .a) (d .b) (d .c)
+      ∙ ap (λ (r : kinds.Row). rowChildren r (d .a) (d .b) (d .c)) (row-at d)
+      ∙ by-row rowChildren constant-children
+
+-- the walks over columns that have the first n nodes of a script
+module _ (s : Script) (n : ℕ) (y : Columns) (has : (i : ℕ) → i < n → HasAt y i (nodeAt s i)) where
+  -- The walk's height is the height of the tree.
+  pub height-tree : (i : ℕ) → i < n → height (tree s i) ≡ heightAt y i
+  unfolding treeStep children heightAt heightStep height
+  height-tree i l = tree-fold height (heightStep y) s n step (suc i) i (omega arith) l
+    where
+      step : (self : ℕ → Term) (i : ℕ) → i < n → height (treeStep s self i) ≡ heightStep y (λ m. height (self m)) i
+      step self i l =
+          high-row i (nodeAt s i) self ∙ ap (λ (ms : List ℕ). suc (gathered max 0 (λ m. height (self m)) ms)) (children-at (has i l))
+
+  -- The walk's unbound variable is the one of the tree.
+  pub unbound-tree : (k : ℕ) (xs : List ℕ) (i : ℕ) → i < n → unbound k xs (tree s i) ≡ unboundAt y k i xs
+  unfolding treeStep children unboundAt unboundStep unbound
+  unbound-tree k xs i l =
+      ap (λ (f : List ℕ → Option ℕ). f xs) (tree-fold (λ t ys. unbound k ys t) (unboundStep y k) s n step (suc i) i (omega arith) l)
+    where
+      step : (self : ℕ → Term) (i : ℕ) → i < n
+          → (λ ys. unbound k ys (treeStep s self i)) ≡ unboundStep y k (λ m ys. unbound k ys (self m)) i
+      step self i l =
+          let d = nodeAt s i in
+          fun-ext (λ ys.
+          let walk = unboundBy k (λ m zs. unbound k zs (self m)) i ys in
+          scoped-row k ys i d self
+          ∙ ap (λ (r : kinds.Row). walk r (d .a) (d .b) (d .c)) (row-at d)
+          ∙ by-row (has i l) walk (constant-scope k (λ m zs. unbound k zs (self m)) i ys))

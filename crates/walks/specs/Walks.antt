@@ -23,17 +23,6 @@ use Rattle.script.specs.Tables.{Tables, rowNode, tablesScript}
 use Rattle.script.specs.Words.{wordKind, wordA, wordB, wordC, Columns, Packed}
 use Rattle.script.specs.Verdicts.{refusalOf}
 
--- the columns of tables
-abbrev pub columnsOf : Tables → Columns
-columnsOf x =
-    record {
-      kind = λ i. getD (x .kinds) i 0;
-      a = λ i. getD (x .a) i 0;
-      b = λ i. getD (x .b) i 0;
-      c = λ i. getD (x .c) i 0;
-      value = λ i. getD (x .values) i (pos 0);
-    }
-
 -- a field in front of others, where a test holds
 unfoldable pub keptIf : Bool → ℕ → List ℕ → List ℕ
 keptIf true f fs = f ∷ fs

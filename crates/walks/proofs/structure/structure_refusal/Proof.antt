@@ -6,7 +6,7 @@ use native.Mathlib.Omega.{arith}
 use Rattle.lambdamix.specs.Limits.{maxNodes}
 use Rattle.lambdamix.specs.Refusal.{refusedAt, orElse}
 use Rattle.script.specs.Verdicts.{foundAt, refusalOf}
-use Rattle.walks.proofs.SameWalks.{words-agree}
+use Rattle.walks.proofs.Agreement.{words-agree}
 use Rattle.walks.proofs.structure.structure_refusal.Statement.{statement}
 use Rattle.walks.proofs.structure.structure_refusal.Tie as tie
 
