@@ -31,7 +31,7 @@ programRefusal file rest =
 unfoldable pub programMade : List ℕ → List ℕ → Made
 programMade file rest = madeUnless (programRefusal file rest) (scriptIn file) (settings rest) programFuel (replicate maxBytes 0)
 
--- the text of a reply: finished code, of i inputs, is listed from its file in the output
+-- the text of a reply: "Nodes counts the written tree", which is listed from its file, of i inputs, in the output
 unfoldable pub replyText : ℕ → List ℕ → Reply → List ℕ
 replyText i output (made k n) = countsText k n ++ listing (scriptIn (madeFile i n output))
 replyText i output (unmade f k) = unmadeText (ltb (f .number) 20) (f .number) (f .place)
