@@ -1,7 +1,7 @@
--- The maker with the settings as it is given them replies as with the settings that follow the script; where these are not whole
+-- The maker with the settings as it is given them gives what it gives with the settings that follow the script; where these are not whole
 -- records, or more than a script has inputs, it is 12 in its place. Assumes nothing.
 use Prim.Native.Nat.{ℕ, _+_, _*_, _/_, _≤_}
-use mathlib.Core.Path.{_≡_, refl, sym, _∙_}
+use mathlib.Core.Path.{_≡_, refl, sym, ap, _∙_}
 use mathlib.Core.Bool.{Bool, true, false, not, _&&_}
 use mathlib.Core.List.{List, [], _∷_}
 use mathlib.Core.Option.{Option, none, some}
@@ -10,22 +10,23 @@ use lib.IntN.{ℤ, pos}
 use lib.ListN.{length, getD}
 use lib.Dec.{ltb, eqb}
 use borrow.Author.Tests.{ne-eqb, ltb-false}
+use Rattle.lambdamix.specs.declared.Mode.the-variants.{Making}
 use Rattle.lambdamix.specs.Limits.{maxInputs, programFuel}
 use Rattle.lambdamix.specs.Script.{Script}
 use Rattle.lambdamix.specs.Refusal.{Refusal, orElse, refusedUnless}
 use Rattle.lambdamix.specs.Checker.{annotationRefusal}
 use Rattle.lambdamix.specs.Structure.{oneIf}
-use Rattle.lambdamix.specs.Specializing.{staticInputs, callRefusal, annotationBy, laterRefusal, specialized}
+use Rattle.lambdamix.specs.Specializing.{staticInputs, callRefusal, annotationBy, laterRefusal}
 use Rattle.lambdamix.proofs.Range.{Fits}
 use Rattle.script.specs.File.{numbered}
 use Rattle.file.specs.Encodable.{AllBytes}
 use Rattle.file.proofs.ByteLaws.{value-small}
 use Rattle.script.proofs.Rows.{everywhere}
 use Rattle.script.proofs.Numbered.{length-numbered, row-at}
-use Rattle.respond.specs.Response.{Reply, unmade, answerReply, unlessRefused, scriptReply, settingsReply}
+use Rattle.residual.specs.AfterRun.{Made}
+use Rattle.specializer.specs.Making.{madeUnless}
 use Rattle.streams.specs.Input.{wholeSettings, settingAt, settings}
-use Rattle.streams.specs.Given.{programSettings}
-use Rattle.streams.specs.Given.{givenBy, givenCount, givenSettings}
+use Rattle.streams.specs.Given.{programSettings, givenBy, givenCount, givenSettings}
 
 abbrev twelve : Option Refusal
 twelve = some (record { number = 12; place = 0 })
@@ -41,66 +42,87 @@ static-few (t ∷ ts) = go (not (eqb t 1)) (static-few ts)
     go true h = omega arith
     go false h = omega arith
 
-module _ (s : Script) (few : length (s .inputs) ≤ maxInputs) where
-  too-many : (zs : List ℤ) → programSettings ≤ length zs → callRefusal s zs programFuel ≡ twelve
-  unfolding callRefusal refusedUnless orElse programSettings maxInputs
-  too-many zs h = rw (ne-eqb (length zs) (staticInputs (s .inputs)) (λ e. omega (arith, static-few (s .inputs))))
+too-many : (s : Script) → length (s .inputs) ≤ maxInputs → (zs : List ℤ) → programSettings ≤ length zs → callRefusal s zs programFuel ≡ twelve
+unfolding callRefusal refusedUnless orElse programSettings maxInputs
+too-many s few zs h = rw (ne-eqb (length zs) (staticInputs (s .inputs)) (λ e. omega (arith, static-few (s .inputs))))
 
-  -- the count that stands for a wrong number of settings
-  wrong-refused : (bs : List ℕ) → callRefusal s (numbered (settingAt bs) 0 programSettings) programFuel ≡ twelve
-  wrong-refused bs =
-      too-many (numbered (settingAt bs) 0 programSettings) (omega (arith, length-numbered (settingAt bs) 0 programSettings))
+-- ---- what is refused
 
-  many-refused : (bs : List ℕ) → programSettings ≤ length bs / 6 → callRefusal s (settings bs) programFuel ≡ twelve
-  unfolding settings
-  many-refused bs h = too-many (settings bs) (omega (arith, length-numbered (settingAt bs) 0 (length bs / 6)))
+module _ (s : Script) where
+  -- by a call, and past 1 to 8 by the program
+  abbrev called : List ℤ → Option Refusal
+  called zs = laterRefusal Making s zs programFuel true
 
-  -- ---- the reply
+  abbrev refused : Bool → List ℤ → Option Refusal
+  refused w zs = orElse (annotationRefusal s) (orElse (refusedUnless w 12 0) (called zs))
 
-  abbrev twelve-reply : Reply
-  twelve-reply = unlessRefused (annotationRefusal s) (unmade 12 0 0)
-
-  refused-reply : (zs : List ℤ) → callRefusal s zs programFuel ≡ twelve → scriptReply s zs ≡ twelve-reply
-  unfolding scriptReply laterRefusal annotationBy unlessRefused orElse
-  refused-reply zs e = rw e (go (annotationRefusal s))
+  whole-called : (zs : List ℤ) → refused true zs ≡ called zs
+  unfolding laterRefusal annotationBy orElse refusedUnless
+  whole-called zs = go (annotationRefusal s) _
     where
-      go :
-          (a : Option Refusal) →
-          unlessRefused (orElse a twelve) (answerReply (specialized s zs programFuel)) ≡ unlessRefused a (unmade 12 0 0)
-      go none = refl
-      go (some f) = refl
+      go : (a r : Option Refusal) → orElse a (orElse a r) ≡ orElse a r
+      go none r = refl
+      go (some f) r = refl
 
-  pub given-reply : (bs : List ℕ) → scriptReply s (givenSettings bs) ≡ settingsReply (wholeSettings bs) s bs
-  unfolding givenSettings givenCount givenBy settingsReply settings
-  given-reply bs = go (ltb (length bs / 6) programSettings) (wholeSettings bs) refl
-    where
-      wrong : scriptReply s (numbered (settingAt bs) 0 programSettings) ≡ twelve-reply
-      wrong = refused-reply (numbered (settingAt bs) 0 programSettings) (wrong-refused bs)
+  call-twelve : (zs : List ℤ) → callRefusal s zs programFuel ≡ twelve → called zs ≡ orElse (annotationRefusal s) twelve
+  unfolding laterRefusal annotationBy orElse
+  call-twelve zs e = rw e
 
-      go :
-          (f w : Bool) → ltb (length bs / 6) programSettings ≡ f →
-          scriptReply s (numbered (settingAt bs) 0 (givenBy (f && w) (length bs / 6))) ≡ settingsReply w s bs
-      go true true e = refl
-      go true false e = wrong
-      go false true e = wrong ∙ sym (refused-reply (settings bs) (many-refused bs (ltb-false (length bs / 6) programSettings e)))
-      go false false e = wrong
+  twelve-refused : (w : Bool) (zs : List ℤ) → (w ≡ true → callRefusal s zs programFuel ≡ twelve) → refused w zs ≡ orElse (annotationRefusal s) twelve
+  unfolding orElse refusedUnless
+  twelve-refused true zs e = whole-called zs ∙ call-twelve zs (e refl)
+  twelve-refused false zs e = refl
 
-  -- more settings than a script has inputs are 12, whatever they are
-  pub many-settings :
-      (bs : List ℕ) → programSettings ≤ length bs / 6 →
-      settingsReply (wholeSettings bs) s bs ≡ unlessRefused (annotationRefusal s) (unmade 12 0 0)
-  unfolding settingsReply
-  many-settings bs h = go (wholeSettings bs)
-    where
-      go : (w : Bool) → settingsReply w s bs ≡ twelve-reply
-      go true = refused-reply (settings bs) (many-refused bs h)
-      go false = refl
+  -- ---- what the maker gives
+
+  module _ (out : List ℕ) where
+    abbrev gives : Option Refusal → List ℤ → Made
+    gives r zs = madeUnless r s zs programFuel out
+
+    -- 12 in its place
+    abbrev pub twelveMade : Made
+    twelveMade = gives (orElse (annotationRefusal s) twelve) []
+
+    without-run : (zs : List ℤ) {r : Option Refusal} → r ≡ orElse (annotationRefusal s) twelve → gives r zs ≡ twelveMade
+    unfolding madeUnless orElse
+    without-run zs e = rw e (go (annotationRefusal s))
+      where
+        go : (a : Option Refusal) → gives (orElse a twelve) zs ≡ gives (orElse a twelve) []
+        go none = refl
+        go (some f) = refl
+
+    module _ (few : length (s .inputs) ≤ maxInputs) (bs : List ℕ) where
+      -- the count that stands for a wrong number of settings
+      wrong-made : gives (called (numbered (settingAt bs) 0 programSettings)) (numbered (settingAt bs) 0 programSettings) ≡ twelveMade
+      wrong-made =
+          let zs : List ℤ = numbered (settingAt bs) 0 programSettings in
+          without-run zs (call-twelve zs (too-many s few zs (omega (arith, length-numbered (settingAt bs) 0 programSettings))))
+
+      -- more settings than a script has inputs are 12, whatever they are
+      pub many-settings : programSettings ≤ length bs / 6 → gives (refused (wholeSettings bs) (settings bs)) (settings bs) ≡ twelveMade
+      unfolding settings
+      many-settings h =
+          let zs : List ℤ = settings bs in
+          without-run zs
+          (twelve-refused (wholeSettings bs) zs (λ q. too-many s few zs (omega (arith, length-numbered (settingAt bs) 0 (length bs / 6)))))
+
+      pub given-made : gives (called (givenSettings bs)) (givenSettings bs) ≡ gives (refused (wholeSettings bs) (settings bs)) (settings bs)
+      unfolding givenSettings givenCount givenBy settings orElse refusedUnless
+      given-made = go (ltb (length bs / 6) programSettings) (wholeSettings bs) refl refl
+        where
+          go :
+              (f w : Bool) → ltb (length bs / 6) programSettings ≡ f → wholeSettings bs ≡ w →
+              gives (called (numbered (settingAt bs) 0 (givenBy (f && w) (length bs / 6)))) (numbered (settingAt bs) 0 (givenBy (f && w) (length bs / 6)))
+              ≡ gives (refused w (settings bs)) (settings bs)
+          go true true e g = ap (λ (r : Option Refusal). gives r (settings bs)) (sym (whole-called (settings bs)))
+          go true false e g = wrong-made ∙ sym (without-run (settings bs) refl)
+          go false w e g = wrong-made ∙ sym (rw g at (many-settings (ltb-false (length bs / 6) programSettings e)))
 
 -- settings have 32 bits
-pub settings-fit : (bs : List ℕ) → AllBytes bs → (i : ℕ) → Fits (getD (givenSettings bs) i (pos 0))
-unfolding givenSettings settingAt
+pub settings-fit : (bs : List ℕ) → AllBytes bs → (i : ℕ) → Fits (getD (settings bs) i (pos 0))
+unfolding settings settingAt
 settings-fit bs all =
-    everywhere Fits (pos 0) (numbered (settingAt bs) 0 (givenCount bs)) (record { within = omega arith })
+    everywhere Fits (pos 0) (numbered (settingAt bs) 0 (length bs / 6)) (record { within = omega arith })
     (λ i l.
-    rw (row-at (settingAt bs) (givenCount bs) (pos 0) i (omega (arith, length-numbered (settingAt bs) 0 (givenCount bs))))
+    rw (row-at (settingAt bs) (length bs / 6) (pos 0) i (omega (arith, length-numbered (settingAt bs) 0 (length bs / 6))))
     (record { within = value-small all (6 * i + 2) }))

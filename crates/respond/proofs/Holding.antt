@@ -27,6 +27,7 @@ use Rattle.file.proofs.FileLaws.{read-fits, script-counts, script-passes}
 use Rattle.printer.specs.ListCalls.{tablesText}
 use Rattle.text.proofs.Writing.{join}
 use Rattle.printer.proofs.ListingBound.{listing-bytes}
+use Rattle.specializer.specs.Making.{madeFile}
 use Rattle.respond.specs.Stages.{listingBytes, ListsAt, ListsReading, ListsFile, PrintsMade, Held}
 use Rattle.streams.specs.Printed.{linesBytes, CountsPlaced}
 use Rattle.respond.proofs.Files.{file-counts, long-for, held-passes}
@@ -106,7 +107,7 @@ pub made-printed :
     {i k n size end at r : ℕ} {file x x₁ y : List ℕ} →
     end ≡ min size (length file) → size ≡ fileLength 0 i n → length x₁ ≡ length x → CountsPlaced k n x x₁ at →
     ListsFile (take (end - 0) (drop 0 file)) at x₁ y r → PrintsMade i k n file x y r
-unfolding linesBytes listingBytes maxBytes maxNodes
+unfolding linesBytes listingBytes maxBytes maxNodes madeFile
 made-printed {i} {k} {n} {file = file} e s same c l =
     let part = front-part (fileLength 0 i n) file (e ∙ ap (λ (m : ℕ). min m (length file)) s) in
     record {

@@ -6,42 +6,41 @@ use mathlib.Core.Bool.{Bool, true, false, _&&_, true≢false}
 use mathlib.Core.List.{List}
 use mathlib.Core.Option.{Option, none, some}
 use native.Mathlib.Omega.{arith}
-use lib.ListN.{length, take, length-drop}
+use lib.ListN.{length, take, replicate, length-drop}
 use lib.Seq.{take-all, take-take, getD-take, length-take-le}
 use lib.Dec.{leb, ltb}
 use borrow.Author.Tests.{le-leb}
 use Rattle.lambdamix.specs.Limits.{maxTypes, maxInputs, maxNodes, maxBytes}
 use Rattle.lambdamix.specs.Refusal.{Refusal, orElse, refusedUnless}
-use Rattle.lambdamix.specs.Checker.{annotationRefusal}
 use Rattle.lambdamix.proofs.Tests.{and-both}
 use Rattle.script.specs.Bytes.{byteAt, word16}
 use Rattle.script.specs.File.{fileLength, nodeOffset, headTypes, headInputs, headNodes, scriptIn}
 use Rattle.script.specs.Refusals.{marked, headMarked, countsRight, fileRefusal, headRefusal}
 use Rattle.script.proofs.Sound.{in-limits}
-use Rattle.respond.specs.Response.{unmade, unlessRefused, inputReply, replyTo, replyText, response}
+use Rattle.respond.specs.Response.{programRefusal, programMade, madeText, response}
 use Rattle.streams.specs.Lines.{unmadeText}
 use Rattle.streams.specs.Input.{headRight, scriptLengthBy, scriptLength, scriptPart, settingsPart}
 use Rattle.streams.specs.Given.{programSettings}
 use Rattle.respond.proofs.Files.{few-inputs}
-use Rattle.respond.proofs.GivenSettings.{many-settings}
+use Rattle.respond.proofs.GivenSettings.{twelveMade, many-settings}
+use Rattle.respond.proofs.Making.{refused-text}
 
 -- ---- the response by the file's refusal
 
 module _ (bs : List ℕ) where
-  abbrev told : Option Refusal → List ℕ
-  told r = replyText (scriptIn (scriptPart bs)) (inputReply r (scriptIn (scriptPart bs)) (settingsPart bs))
-
   refused-response :
       (f : Refusal) → fileRefusal (scriptPart bs) ≡ some f → response bs ≡ unmadeText (ltb (f .number) 20) (f .number) (f .place)
-  unfolding response replyTo inputReply replyText
-  refused-response f e = ap told e
+  unfolding response
+  refused-response f e = refused-text (scriptPart bs) (settingsPart bs) f e
 
   twelve-response :
       fileRefusal (scriptPart bs) ≡ none → programSettings ≤ length (settingsPart bs) / 6 →
-      response bs ≡ replyText (scriptIn (scriptPart bs)) (unlessRefused (annotationRefusal (scriptIn (scriptPart bs))) (unmade 12 0 0))
-  unfolding response replyTo inputReply
+      response bs ≡ madeText (headInputs (scriptPart bs)) (twelveMade (scriptIn (scriptPart bs)) (replicate maxBytes 0))
+  unfolding response programMade programRefusal orElse
   twelve-response e h =
-      ap told e ∙ ap (replyText (scriptIn (scriptPart bs))) (many-settings (scriptIn (scriptPart bs)) (few-inputs (scriptPart bs) e) (settingsPart bs) h)
+      rw e
+      (ap (madeText (headInputs (scriptPart bs)))
+      (many-settings (scriptIn (scriptPart bs)) (replicate maxBytes 0) (few-inputs (scriptPart bs) e) (settingsPart bs) h))
 
 -- ---- the head
 

@@ -1,72 +1,50 @@
--- What the maker's call gives of a script that is held, and the reply where it gives number and place. Assumes nothing.
+-- What the program tells is what the maker's call gives of a script that is held; a file that is refused is told as it is. Assumes
+-- nothing.
 use Prim.Native.Nat.{ℕ}
-use mathlib.Core.Path.{_≡_, refl, sym, ap, _∙_}
-use mathlib.Core.Bool.{Bool, true, false}
+use mathlib.Core.Path.{_≡_, _∙_}
+use mathlib.Core.Bool.{true}
 use mathlib.Core.List.{List}
-use mathlib.Core.Option.{Option, none, some}
-use native.Mathlib.Omega.{arith}
+use mathlib.Core.Option.{some}
 use lib.IntN.{ℤ}
-use lib.ListN.{length}
-use lib.Dec.{leb}
+use lib.ListN.{replicate}
+use lib.Dec.{ltb}
 use Rattle.lambdamix.specs.declared.Mode.the-variants.{Making}
-use Rattle.lambdamix.specs.Limits.{programFuel}
-use Rattle.lambdamix.specs.Script.{Script}
+use Rattle.lambdamix.specs.Limits.{programFuel, maxBytes}
 use Rattle.lambdamix.specs.Refusal.{Refusal, orElse}
-use Rattle.lambdamix.specs.Code.{Code, fits, written}
-use Rattle.lambdamix.specs.Specializing.{Answer, finished, halted, specialized, laterRefusal}
+use Rattle.lambdamix.specs.Specializing.{laterRefusal}
 use Rattle.script.specs.declared.Counts.{Counts}
-use Rattle.script.specs.File.{fileBytes, scriptIn}
+use Rattle.script.specs.File.{headInputs, scriptIn}
+use Rattle.script.specs.Refusals.{fileRefusal}
 use Rattle.script.specs.Tables.{Tables}
-use Rattle.residual.specs.AfterRun.{Reply, made, unmade, Made, writtenBy, afterRun}
 use Rattle.machine.specs.Room.{Stores, storesSuffice}
+use Rattle.specializer.specs.declared.Reply.{Reply}
 use Rattle.specializer.specs.Making.{refusalBefore, madeUnless, making}
-use Rattle.respond.specs.Response as Response
-use Rattle.respond.specs.Response.{madeBy, answerReply, unlessRefused}
-use Rattle.respond.specs.Stages.{Held}
-use Rattle.respond.proofs.Files.{held-passes}
+use Rattle.specializer.specs.Entry.{given}
+use Rattle.streams.specs.Lines.{unmadeText}
+use Rattle.respond.specs.Response.{programRefusal, programMade, replyText, madeText}
+use Rattle.respond.specs.Stages.{Held, MakesGiven}
+use Rattle.respond.proofs.Files.{few-inputs, held-passes}
+use Rattle.respond.proofs.GivenSettings.{given-made}
 
--- ---- what is refused before the run of a script that is held
-
-module _ {bs : List ℕ} {n : Counts} {x : Tables} (h : Held bs n x) (zs : List ℤ) (m : Stores) (enough : storesSuffice programFuel m ≡ true) where
-  before-is :
-      refusalBefore Making (n .types) (n .inputs) (n .nodes) x zs programFuel m ≡ laterRefusal Making (scriptIn bs) zs programFuel true
-  unfolding refusalBefore orElse
-  before-is = rw (held-passes h, h .script, enough)
-
-  pub making-is :
-      (out : List ℕ) →
+module _ {bs : List ℕ} {n : Counts} {x : Tables} (h : Held bs n x) where
+  making-is :
+      (zs : List ℤ) (m : Stores) (out : List ℕ) → storesSuffice programFuel m ≡ true →
       making Making (n .types) (n .inputs) (n .nodes) x zs programFuel m out
       ≡ madeUnless (laterRefusal Making (scriptIn bs) zs programFuel true) (scriptIn bs) zs programFuel out
-  unfolding making
-  making-is out = rw (before-is, h .script)
+  unfolding making refusalBefore orElse
+  making-is zs m out enough = rw (held-passes h, h .script, enough)
 
--- ---- replies
+  -- a file of zeros, with room for every file
+  pub program-made :
+      {rest file left : List ℕ} {r : Reply} → MakesGiven n x rest file left r → file ≡ replicate maxBytes 0 →
+      given r left ≡ programMade bs rest
+  unfolding programMade programRefusal orElse
+  program-made {rest} {file} m e =
+      rw (h .read, ← e)
+      (m .gives ∙ making-is _ (m .stores) file (m .enough) ∙ given-made (scriptIn bs) file (few-inputs bs (h .read)) rest)
 
--- a reply without code as the program tells it
-abbrev told : Reply → Response.Reply
-told (made k n) = Response.unmade 0 0 0
-told (unmade f k) = Response.unmade (f .number) (f .place) k
-
-clash : {k n j : ℕ} {f : Refusal} → made k n ≡ unmade f j → ⊥
-clash e = let z : _≡_ {A = ℕ} 0 1 = cc in omega arith
-
-module _ (s : Script) (zs : List ℤ) (out left : List ℕ) where
-  -- where the file of code that fits always finds room
-  pub unmade-told :
-      ((c : Code) → fits c ≡ true → leb (length (fileBytes (written s c))) (length out) ≡ true) →
-      (r : Option Refusal) (f : Refusal) (k : ℕ) → record { reply = unmade f k; output = left } ≡ madeUnless r s zs programFuel out →
-      unlessRefused r (answerReply (specialized s zs programFuel)) ≡ Response.unmade (f .number) (f .place) k
-  unfolding madeUnless unlessRefused afterRun answerReply writtenBy madeBy
-  unmade-told room (some g) f k e = sym (ap (λ (m : Made). told (m .reply)) e)
-  unmade-told room none f k e = go (specialized s zs programFuel) e
-    where
-      go : (a : Answer) → record { reply = unmade f k; output = left } ≡ afterRun s a out → answerReply a ≡ Response.unmade (f .number) (f .place) k
-      go (halted w j) e = sym (ap (λ (m : Made). told (m .reply)) e)
-      go (finished c j) e = by (fits c) (leb (length (fileBytes (written s c))) (length out)) refl refl e
-        where
-          by :
-              (g l : Bool) → fits c ≡ g → leb (length (fileBytes (written s c))) (length out) ≡ l →
-              record { reply = unmade f k; output = left } ≡ writtenBy g l s c j out → madeBy g c j ≡ Response.unmade (f .number) (f .place) k
-          by false l p q e = sym (ap (λ (m : Made). told (m .reply)) e)
-          by true false p q e = let z : true ≡ false = sym (room c p) ∙ q in absurd (let y : _≡_ {A = ℕ} 0 1 = cc in omega arith)
-          by true true p q e = absurd (clash (sym (ap (λ (m : Made). m .reply) e)))
+pub refused-text :
+    (file rest : List ℕ) (f : Refusal) → fileRefusal file ≡ some f →
+    madeText (headInputs file) (programMade file rest) ≡ unmadeText (ltb (f .number) 20) (f .number) (f .place)
+unfolding madeText programMade programRefusal orElse madeUnless replyText
+refused-text file rest f e = rw e

@@ -24,7 +24,7 @@ use Rattle.script.specs.Replies.{Reads}
 use Rattle.text.specs.Places.{most}
 use Rattle.script.proofs.Rows.{everywhere}
 use Rattle.respond.specs.declared.Response.the-variants.{Printed, Refused}
-use Rattle.respond.specs.Response.{inputReply, replyTo, replyText, response}
+use Rattle.respond.specs.Response.{response}
 use Rattle.streams.specs.Lines.{unmadeText}
 use Rattle.streams.specs.Input.{scriptLength, scriptPart, settingsPart}
 use Rattle.script.specs.Replies.{replying}
@@ -33,6 +33,7 @@ use Rattle.respond.specs.Stages.{AnswersScript, AnswersReading, Answers}
 use Rattle.streams.specs.Printed.{Prints}
 use Rattle.streams.proofs.Splitting.{front-part, back-part}
 use Rattle.respond.proofs.Holding.{one-count, refused-not-read, passed-read, refused-read, held}
+use Rattle.respond.proofs.Making.{refused-text}
 
 -- ---- parts of bytes are bytes
 
@@ -86,14 +87,16 @@ module _ (input : List ℕ) {x y : Tables} {end : ℕ} {told : Reading} (room : 
   pub input-answered :
       {out printed : List ℕ} {last r : ℕ} → last ≡ length input → AllBytes input →
       AnswersReading told y (take (last - end) (drop end input)) out printed r → Answers input out printed r
-  unfolding response replyTo inputReply replyText settingsPart
+  unfolding response settingsPart
   input-answered {out} {printed} {last} {r} l all s = record { answers = λ long. go long (fileRefusal (scriptPart input)) refl }
     where
       go : maxBytes ≤ length out → (f : Option Refusal) → fileRefusal (scriptPart input) ≡ f → Prints (response input) out printed r
       go long none g =
           let a = (rw (back-part (scriptLength input) input e l) at s) .read (headCounts (scriptPart input)) (passed-read room script-read g) in
-          rw g (a .answers (scriptPart input) (held room script-read (script-bytes input all) g) (left-bytes (scriptLength input) all) long)
-      go long (some f) g = rw g (s .refused (record { number = f .number; place = f .place }) (refused-read room script-read g))
+          a .answers (scriptPart input) (held room script-read (script-bytes input all) g) (left-bytes (scriptLength input) all) long
+      go long (some f) g =
+          rw (refused-text (scriptPart input) (settingsPart input) f g)
+          (s .refused (record { number = f .number; place = f .place }) (refused-read room script-read g))
 
 -- ---- the call
 

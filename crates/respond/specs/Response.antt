@@ -1,64 +1,44 @@
--- What `benchmake` prints for any standard input: paper 01, "Listing and program". "Bytes after the script that aren't whole `SV` records
--- give 12." Assumes nothing.
+-- What `benchmake` prints for any standard input: paper 01, "Listing and program". What it tells is what the maker's call gives:
+-- `madeUnless` of the crate `specializer`. Assumes nothing.
 use Prim.Native.Nat.{ℕ}
-use mathlib.Core.Bool.{Bool, true, false}
+use mathlib.Core.Bool.{true}
 use mathlib.Core.List.{List, _++_}
-use mathlib.Core.Option.{Option, none, some}
-use lib.IntN.{ℤ}
+use mathlib.Core.Option.{Option}
+use lib.ListN.{replicate}
 use lib.Dec.{ltb}
 use Rattle.lambdamix.specs.declared.Mode.the-variants.{Making}
-use Rattle.lambdamix.specs.Limits.{programFuel}
-use Rattle.lambdamix.specs.Script.{Script}
-use Rattle.lambdamix.specs.Refusal.{Refusal}
+use Rattle.lambdamix.specs.Limits.{programFuel, maxBytes}
+use Rattle.lambdamix.specs.Refusal.{Refusal, orElse, refusedUnless}
 use Rattle.lambdamix.specs.Checker.{annotationRefusal}
-use Rattle.lambdamix.specs.Code.{Code, size, fits, written}
-use Rattle.lambdamix.specs.Value.{stopNumber, stopPlace}
-use Rattle.lambdamix.specs.Specializing.{Answer, finished, halted, specialized, laterRefusal}
+use Rattle.lambdamix.specs.Specializing.{laterRefusal}
 use Rattle.lambdamix.specs.Listing.{listing}
-use Rattle.script.specs.File.{scriptIn}
+use Rattle.script.specs.File.{headInputs, scriptIn}
 use Rattle.script.specs.Refusals.{fileRefusal}
+use Rattle.residual.specs.AfterRun.{Reply, made, unmade, Made}
+use Rattle.specializer.specs.Making.{madeUnless, madeFile}
 use Rattle.streams.specs.Input.{scriptPart, settingsPart, wholeSettings, settings}
 use Rattle.streams.specs.Lines.{unmadeText, countsText}
 
--- what is told of an input: finished code that fits a file, with its steps; or number, place and steps
-pub data Reply : Type 0 where
-  made : Code → ℕ → Reply
-  unmade : ℕ → ℕ → ℕ → Reply
+-- what is refused before the run of a script file with the bytes after it: 1 to 8; 9 to 11; "Bytes after the script that aren't whole
+-- `SV` records give 12", in 12's place; then as in every call, on stores that suffice
+unfoldable pub programRefusal : List ℕ → List ℕ → Option Refusal
+programRefusal file rest =
+    orElse (fileRefusal file)
+    (orElse (annotationRefusal (scriptIn file))
+    (orElse (refusedUnless (wholeSettings rest) 12 0) (laterRefusal Making (scriptIn file) (settings rest) programFuel true)))
 
-unfoldable pub madeBy : Bool → Code → ℕ → Reply
-madeBy true c k = made c k
-madeBy false c k = unmade 26 0 k
+-- what the maker gives, into zeros with room for every file
+unfoldable pub programMade : List ℕ → List ℕ → Made
+programMade file rest = madeUnless (programRefusal file rest) (scriptIn file) (settings rest) programFuel (replicate maxBytes 0)
 
-unfoldable pub answerReply : Answer → Reply
-answerReply (finished c k) = madeBy (fits c) c k
-answerReply (halted w k) = unmade (stopNumber w) (stopPlace w) k
+-- the text of a reply: "Nodes counts the written tree", which is listed from its file, of i inputs, in the output
+unfoldable pub replyText : ℕ → List ℕ → Reply → List ℕ
+replyText i output (made k n) = countsText k n ++ listing (scriptIn (madeFile i n output))
+replyText i output (unmade f k) = unmadeText (ltb (f .number) 20) (f .number) (f .place)
 
-unfoldable pub unlessRefused : Option Refusal → Reply → Reply
-unlessRefused none r = r
-unlessRefused (some f) r = unmade (f .number) (f .place) 0
-
--- a script past 1 to 8 with these settings: the program's stores suffice, and its output has room for every file
-unfoldable pub scriptReply : Script → List ℤ → Reply
-scriptReply s zs = unlessRefused (laterRefusal Making s zs programFuel true) (answerReply (specialized s zs programFuel))
-
--- the making with what follows the script; what isn't whole records is 12, in 12's place
-unfoldable pub settingsReply : Bool → Script → List ℕ → Reply
-settingsReply true s bs = scriptReply s (settings bs)
-settingsReply false s bs = unlessRefused (annotationRefusal s) (unmade 12 0 0)
-
-unfoldable pub inputReply : Option Refusal → Script → List ℕ → Reply
-inputReply none s bs = settingsReply (wholeSettings bs) s bs
-inputReply (some f) s bs = unmade (f .number) (f .place) 0
-
--- the reply to an input
-unfoldable pub replyTo : List ℕ → Reply
-replyTo bs = inputReply (fileRefusal (scriptPart bs)) (scriptIn (scriptPart bs)) (settingsPart bs)
-
--- "Nodes counts the written tree."
-unfoldable pub replyText : Script → Reply → List ℕ
-replyText s (made c k) = countsText k (size c) ++ listing (written s c)
-replyText s (unmade n p k) = unmadeText (ltb n 20) n p
+unfoldable pub madeText : ℕ → Made → List ℕ
+madeText i m = replyText i (m .output) (m .reply)
 
 -- every byte that the program prints for an input
 unfoldable pub response : List ℕ → List ℕ
-response bs = replyText (scriptIn (scriptPart bs)) (replyTo bs)
+response bs = madeText (headInputs (scriptPart bs)) (programMade (scriptPart bs) (settingsPart bs))

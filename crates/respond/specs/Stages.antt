@@ -4,7 +4,7 @@ use mathlib.Core.Path.{_≡_}
 use mathlib.Core.Bool.{true}
 use mathlib.Core.List.{List, _++_}
 use mathlib.Core.Option.{none}
-use lib.ListN.{length, take}
+use lib.ListN.{length}
 use lib.Dec.{ltb}
 use Rattle.lambdamix.specs.declared.Mode.the-variants.{Making}
 use Rattle.lambdamix.specs.Limits.{maxTypes, maxInputs, maxNodes, programFuel, maxBytes}
@@ -14,7 +14,7 @@ use Rattle.script.specs.declared.Counts.{Counts}
 use Rattle.script.specs.declared.Refusal.{Refusal}
 use Rattle.script.specs.declared.Reading.{Reading}
 use Rattle.script.specs.declared.Reading.the-variants as Reading
-use Rattle.script.specs.File.{fileLength, scriptIn}
+use Rattle.script.specs.File.{headInputs, scriptIn}
 use Rattle.script.specs.Refusals.{fileRefusal}
 use Rattle.script.specs.Replies.{headCounts}
 use Rattle.file.specs.Encodable.{AllBytes}
@@ -22,13 +22,11 @@ use Rattle.script.specs.Tables.{Tables, tablesScript, tablesRefusal, longEnough
 use Rattle.text.specs.Places.{Placed}
 use Rattle.printer.specs.ListCalls.{tablesText}
 use Rattle.specializer.specs.declared.Reply.{Reply}
-use Rattle.machine.specs.Room.{Stores, stores}
-use Rattle.machine.specs.Room.{storesSuffice}
-use Rattle.specializer.specs.Making.{making}
+use Rattle.machine.specs.Room.{Stores, storesSuffice}
+use Rattle.specializer.specs.Making.{making, madeFile}
 use Rattle.specializer.specs.Entry.{given}
-use Rattle.respond.specs.Response.{settingsReply, replyText, response}
+use Rattle.respond.specs.Response.{programMade, madeText, response}
 use Rattle.streams.specs.Lines.{unmadeText, countsText}
-use Rattle.streams.specs.Input.{wholeSettings}
 use Rattle.streams.specs.Given.{givenSettings}
 use Rattle.streams.specs.Printed.{Prints}
 
@@ -58,8 +56,8 @@ pub record ListsFile (bs : List ℕ) (at : ℕ) (before after : List ℕ) (r : �
 -- finished code is printed from the file that it was written as
 pub record PrintsMade (inputs k n : ℕ) (file before after : List ℕ) (r : ℕ) : Type 0 where
   pub prints :
-      fileRefusal (take (fileLength 0 inputs n) file) ≡ none → maxBytes ≤ length before →
-      Prints (countsText k n ++ listing (scriptIn (take (fileLength 0 inputs n) file))) before after r
+      fileRefusal (madeFile inputs n file) ≡ none → maxBytes ≤ length before →
+      Prints (countsText k n ++ listing (scriptIn (madeFile inputs n file))) before after r
 
 -- counts and tables hold a file that passes 1 to 8, and are long enough for every file
 pub record Held (bs : List ℕ) (n : Counts) (x : Tables) : Type 0 where
@@ -79,7 +77,7 @@ pub record MakesGiven (n : Counts) (x : Tables) (rest file made : List ℕ) (r :
 pub record AnswersScript (n : Counts) (x : Tables) (rest out printed : List ℕ) (r : ℕ) : Type 0 where
   pub answers :
       (bs : List ℕ) → Held bs n x → AllBytes rest → maxBytes ≤ length out →
-      Prints (replyText (scriptIn bs) (settingsReply (wholeSettings rest) (scriptIn bs) rest)) out printed r
+      Prints (madeText (headInputs bs) (programMade bs rest)) out printed r
 
 -- the reader's answer is answered: a refusal is told as it is
 pub record AnswersReading (told : Reading) (x : Tables) (rest out printed : List ℕ) (r : ℕ) : Type 0 where

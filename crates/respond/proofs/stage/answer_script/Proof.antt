@@ -1,6 +1,5 @@
 -- `respond::stage::answer_script` meets its contract: by the reader's answer and the maker's reply. Assumes nothing.
 use mathlib.Core.Path.{refl, sym}
-use native.Mathlib.Omega.{arith}
 use Rattle.lambdamix.specs.Limits.{maxBytes}
 use Rattle.respond.proofs.Answering.{answered-unmade, answered-made}
 use Rattle.respond.proofs.Responding.{answered-read, answered-refused}
@@ -17,16 +16,17 @@ returns-2 c =
     let at-make-given = c .before .before .before .before .before .before .before .before .make-given in
     let at-reply = c .before .before .before .before .before .reply in
     let at-print-unmade2 = c .before .before .print-unmade2 in
-    answered-read (at-told2 .given .1) (answered-unmade _ (at-make-given .ensures) (omega arith) (at-reply .given .1) (at-print-unmade2
+    answered-read (at-told2 .given .1) (answered-unmade (at-make-given .ensures) refl (at-reply .given .1) (at-print-unmade2
     .ensures))
 
 returns-3 : tie.Need-returns-3
+unfolding maxBytes
 returns-3 c =
     let at-told2 = c .before .before .before .before .before .before .before .before .before .before .before .before .told2 in
     let at-make-given = c .before .before .before .before .before .before .before .before .before .make-given in
     let at-reply2 = c .before .before .before .before .before .before .reply2 in
     let at-print-made = c .before .before .print-made in
-    answered-read (at-told2 .given .1) (answered-made _ (at-make-given .ensures) (at-reply2 .given .1) (at-print-made .ensures))
+    answered-read (at-told2 .given .1) (answered-made (at-make-given .ensures) refl (at-reply2 .given .1) (at-print-made .ensures))
 
 pub answer-script-spec : {M : Type 1} → statement M
 answer-script-spec =
