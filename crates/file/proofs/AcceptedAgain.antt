@@ -11,6 +11,7 @@ use lib.IntN.{ℤ, pos}
 use lib.ListN.{length, getD}
 use lib.Dec.{leb}
 use borrow.Author.Tests.{leb-true, le-leb}
+use Rattle.lambdamix.specs.Arithmetic.{Fits32}
 use Rattle.lambdamix.specs.Limits.{maxInputs, maxNodes, maxFuel}
 use Rattle.lambdamix.specs.Script.{Script, Node, blankNode, nodeAt, inputCount}
 use Rattle.lambdamix.specs.Checker.{annotationRefusal}
@@ -19,7 +20,7 @@ use Rattle.lambdamix.specs.Structure.{structureRefusal}
 use Rattle.lambdamix.specs.Code.{Code, fits, written}
 use Rattle.lambdamix.specs.Specializing.{specialized, finished}
 use Rattle.lambdamix.proofs.Checking.{checker-accepts}
-use Rattle.lambdamix.proofs.Range.{Fits, CodeFits, code-in-range}
+use Rattle.lambdamix.proofs.Range.{CodeFits, code-in-range}
 use Rattle.lambdamix.proofs.Suits.{Scoped}
 use Rattle.lambdamix.proofs.Bounds.{names-fit}
 use Rattle.lambdamix.proofs.WellAnnotated as WellAnnotated
@@ -94,9 +95,9 @@ module _
     (s : Script)
     (passes-all : scriptRefusal s ≡ none)
     (annotated : annotationRefusal s ≡ none)
-    (values : (i : ℕ) → Fits (nodeAt s i .value))
+    (values : (i : ℕ) → Fits32 (nodeAt s i .value))
     (zs : List ℤ)
-    (settings : (i : ℕ) → Fits (getD zs i (pos 0)))
+    (settings : (i : ℕ) → Fits32 (getD zs i (pos 0)))
     (fuel : ℕ)
     (limit : fuel ≤ maxFuel)
     (c : Code)
@@ -128,8 +129,8 @@ module _
 
 -- Demand 3 of a script past 3 to 11, for numbers of 32 bits and fuel within its limit.
 pub script-demand-three :
-    (s : Script) → scriptRefusal s ≡ none → annotationRefusal s ≡ none → ((i : ℕ) → Fits (nodeAt s i .value)) → (zs : List ℤ) →
-    ((i : ℕ) → Fits (getD zs i (pos 0))) → (fuel : ℕ) → fuel ≤ maxFuel → DemandThree s zs fuel
+    (s : Script) → scriptRefusal s ≡ none → annotationRefusal s ≡ none → ((i : ℕ) → Fits32 (nodeAt s i .value)) → (zs : List ℤ) →
+    ((i : ℕ) → Fits32 (getD zs i (pos 0))) → (fuel : ℕ) → fuel ≤ maxFuel → DemandThree s zs fuel
 script-demand-three s passes-all annotated values zs settings fuel limit =
     let d = checker-accepts s .0 annotated in
     record {
@@ -140,17 +141,17 @@ script-demand-three s passes-all annotated values zs settings fuel limit =
     }
 
 -- The values of a script that was read have 32 bits.
-pub values-fit : (bs : List ℕ) → AllBytes bs → (i : ℕ) → Fits (nodeAt (scriptIn bs) i .value)
+pub values-fit : (bs : List ℕ) → AllBytes bs → (i : ℕ) → Fits32 (nodeAt (scriptIn bs) i .value)
 unfolding nodeAt
 values-fit bs bytes =
-    everywhere (λ (d : Node). Fits (d .value)) blankNode (scriptIn bs .nodes) (record { within = omega arith })
-    (λ i l. record { within = read-fits bs bytes .nodes i l .value })
+    everywhere (λ (d : Node). Fits32 (d .value)) blankNode (scriptIn bs .nodes) (omega arith)
+    (λ i l. read-fits bs bytes .nodes i l .value)
 
 -- Theorem, demand 3 of the evaluation rules: of every accepted file, for settings of 32 bits and fuel within its limit, no run takes number, code
 -- and function for one another; a run that finishes finishes with code; every name in it is a late input's or is used inside its own
 -- binder; and wherever it fits a script file, that file is accepted again.
 pub demand-three :
-    (bs : List ℕ) → AllBytes bs → AcceptedFile bs → (zs : List ℤ) → ((i : ℕ) → Fits (getD zs i (pos 0))) → (fuel : ℕ) →
+    (bs : List ℕ) → AllBytes bs → AcceptedFile bs → (zs : List ℤ) → ((i : ℕ) → Fits32 (getD zs i (pos 0))) → (fuel : ℕ) →
     fuel ≤ maxFuel → DemandThree (scriptIn bs) zs fuel
 demand-three bs bytes h =
     script-demand-three (scriptIn bs) (script-passes bs bytes (h .read)) (h .annotated) (values-fit bs bytes)

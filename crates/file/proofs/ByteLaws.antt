@@ -6,10 +6,10 @@ use mathlib.Core.List.{List, [], _∷_, _++_}
 use native.Mathlib.Omega.{arith}
 use native.Mathlib.Decide.{decLt}
 use lib.IntN.{ℤ}
-use lib.Signed.{mag}
 use lib.ListN.{length, getD, length-append, List·getD-append}
 use lib.Seq.{getD-append-add, ext-getD}
 use lib.Dec.{lit<}
+use Rattle.lambdamix.specs.Arithmetic.{Fits32}
 use Rattle.script.proofs.WordLaws.{bits-small, signed-bits, signed-both}
 use Rattle.script.specs.Bytes.{byteAt, word16, word32, signed32, bits32, bytes16, bytes32}
 use Rattle.file.specs.Encodable.{AllBytes}
@@ -129,11 +129,11 @@ unfolding word32
 word32-small all o = omega (arith, word16-small all o, word16-small all (o + 2))
 
 -- the signed value at a place: read as written, written as read, and within the range
-pub value-at : {bs : List ℕ} {o : ℕ} {z : ℤ} → Stands bs o (bytes32 (bits32 z)) → mag z < 2147483648 → signed32 (word32 bs o) ≡ z
+pub value-at : {bs : List ℕ} {o : ℕ} {z : ℤ} → Stands bs o (bytes32 (bits32 z)) → Fits32 z → signed32 (word32 bs o) ≡ z
 value-at {bs} {o} {z} s h = ap signed32 (word32-at s (bits-small z h)) ∙ signed-bits z h
 
 pub value-stands : {bs : List ℕ} → AllBytes bs → (o : ℕ) → Stands bs o (bytes32 (bits32 (signed32 (word32 bs o))))
 value-stands {bs} all o = rw (signed-both (word32 bs o) (word32-small all o) .0) (stands32 all o)
 
-pub value-small : {bs : List ℕ} → AllBytes bs → (o : ℕ) → mag (signed32 (word32 bs o)) < 2147483648
+pub value-small : {bs : List ℕ} → AllBytes bs → (o : ℕ) → Fits32 (signed32 (word32 bs o))
 value-small {bs} all o = signed-both (word32 bs o) (word32-small all o) .1

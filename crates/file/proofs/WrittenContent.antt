@@ -10,7 +10,7 @@ use lib.IntN.{pos}
 use lib.ListN.{length, getD}
 use lib.Dec.{leb, ltb}
 use borrow.Author.Tests.{lt-ltb, le-leb, ltb-true, leb-true}
-use lib.Signed.{mag}
+use Rattle.lambdamix.specs.Arithmetic.{Fits32}
 use Rattle.lambdamix.specs.declared.Operator.{Operator}
 use Rattle.lambdamix.specs.declared.Operator.the-variants.{Add, Subtract, Multiply, Divide, Equal, Less}
 use Rattle.lambdamix.specs.Limits.{maxTypes, maxInputs, maxNodes, maxHeight}
@@ -60,7 +60,7 @@ data Before (m : ℕ) : List ℕ → Type 0 where
   no-number : Before m []
   and-number : {i : ℕ} {is : List ℕ} → i < m → Before m is → Before m (i ∷ is)
 
-zero-fits : mag (pos 0) < 2147483648
+zero-fits : Fits32 (pos 0)
 zero-fits = omega arith
 
 form-good :
@@ -126,7 +126,7 @@ module _ {s : Script} {N : ℕ} (few : inputCount s ≤ 65536) (names : N ≤ 65
         and-node {k = k} {nd = node 0 0 0 0 z}
         (record {
           right = refl;
-          encodable = record { kind = omega arith; a = omega arith; b = omega arith; c = omega arith; value = v .within };
+          encodable = record { kind = omega arith; a = omega arith; b = omega arith; c = omega arith; value = v };
         })
         (one (node 2 k 0 0 (pos 0))
         (record {

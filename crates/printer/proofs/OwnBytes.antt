@@ -5,9 +5,9 @@ use mathlib.Core.Bool.{Bool, true, false}
 use mathlib.Core.List.{List, [], _∷_, _++_}
 use native.Mathlib.Omega.{arith}
 use lib.IntN.{ℤ, pos, negsuc}
-use lib.Signed.{mag}
 use lib.ListN.{length, length-append}
 use lib.Dec.{ltb}
+use Rattle.lambdamix.specs.Arithmetic.{Fits32}
 use Rattle.lambdamix.specs.Script.{Node, rows, rowOf, fields, ifChild, childFields, children}
 use Rattle.lambdamix.specs.Text.{ascii, decimal}
 use Rattle.lambdamix.specs.Term.{operatorOf}
@@ -30,7 +30,7 @@ name-bytes n x h = go (ltb x n)
     go true = omega (arith, digits-within 4 x (omega arith))
     go false = omega (arith, digits-within 4 x (omega arith))
 
-decimal-bytes : (z : ℤ) → mag z < 2147483648 → length (decimal z) ≤ 11
+decimal-bytes : (z : ℤ) → Fits32 z → length (decimal z) ≤ 11
 unfolding decimal
 decimal-bytes (pos n) h = omega (arith, digits-within 9 n (omega arith))
 decimal-bytes (negsuc n) h = omega (arith, digits-within 9 (suc n) (omega arith))
@@ -85,7 +85,7 @@ module _ (n : ℕ) (self : ℕ → List ℕ) (a b c : ℕ) (z : ℤ) where
 
 -- The bytes of a node's text, given those of its children's.
 pub own-bytes :
-    (n : ℕ) (self : ℕ → List ℕ) (nd : Node) → nd .a < 65536 → mag (nd .value) < 2147483648 →
+    (n : ℕ) (self : ℕ → List ℕ) (nd : Node) → nd .a < 65536 → Fits32 (nd .value) →
     length (nodeText n self nd) ≤ 13 + total (λ m. length (self m)) (children nd)
 own-bytes n self nd h g =
     row-bytes n self (nd .a) (nd .b) (nd .c) (nd .value) (nd .kind) (name-bytes n (nd .a) h) (decimal-bytes (nd .value) g)

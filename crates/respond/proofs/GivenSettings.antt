@@ -10,6 +10,7 @@ use lib.IntN.{ℤ, pos}
 use lib.ListN.{length, getD}
 use lib.Dec.{ltb, eqb}
 use borrow.Author.Tests.{ne-eqb, ltb-false}
+use Rattle.lambdamix.specs.Arithmetic.{Fits32}
 use Rattle.lambdamix.specs.declared.Mode.the-variants.{Making}
 use Rattle.lambdamix.specs.Limits.{maxInputs, programFuel}
 use Rattle.lambdamix.specs.Script.{Script}
@@ -17,7 +18,6 @@ use Rattle.lambdamix.specs.Refusal.{Refusal, orElse, refusedUnless}
 use Rattle.lambdamix.specs.Checker.{annotationRefusal}
 use Rattle.lambdamix.specs.Structure.{oneIf}
 use Rattle.lambdamix.specs.Specializing.{staticInputs, callRefusal, annotationBy, laterRefusal}
-use Rattle.lambdamix.proofs.Range.{Fits}
 use Rattle.script.specs.File.{numbered}
 use Rattle.file.specs.Encodable.{AllBytes}
 use Rattle.file.proofs.ByteLaws.{value-small}
@@ -119,10 +119,10 @@ module _ (s : Script) where
           go false w e g = wrong-made ∙ sym (rw g at (many-settings (ltb-false (length bs / 6) programSettings e)))
 
 -- settings have 32 bits
-pub settings-fit : (bs : List ℕ) → AllBytes bs → (i : ℕ) → Fits (getD (settings bs) i (pos 0))
+pub settings-fit : (bs : List ℕ) → AllBytes bs → (i : ℕ) → Fits32 (getD (settings bs) i (pos 0))
 unfolding settings settingAt
 settings-fit bs all =
-    everywhere Fits (pos 0) (numbered (settingAt bs) 0 (length bs / 6)) (record { within = omega arith })
+    everywhere Fits32 (pos 0) (numbered (settingAt bs) 0 (length bs / 6)) (omega arith)
     (λ i l.
     rw (row-at (settingAt bs) (length bs / 6) (pos 0) i (omega (arith, length-numbered (settingAt bs) 0 (length bs / 6))))
-    (record { within = value-small all (6 * i + 2) }))
+    (value-small all (6 * i + 2)))

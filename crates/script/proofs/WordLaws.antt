@@ -5,19 +5,15 @@ use mathlib.Core.Bool.{Bool, true, false}
 use mathlib.Core.List.{List}
 use native.Mathlib.Omega.{arith}
 use lib.IntN.{ℤ, pos, negsuc}
-use lib.Signed.{mag}
 use lib.ListN.{length, getD, set}
 use lib.Seq.{getD-set-same, getD-set-other}
 use borrow.Author.Tests.{lt-ltb, le-ltb, ltb-true, ltb-false, eqb-true, eqb-false}
 use lib.Dec.{ltb, eqb}
+use Rattle.lambdamix.specs.Arithmetic.{Fits32}
 use Rattle.lambdamix.specs.Script.{Node}
 use Rattle.script.specs.Bytes.{signed32, signedBy, bits32}
 use Rattle.lambdamix.specs.Code.{node}
 use Rattle.script.specs.Words.{word, wordKind, wordA, wordB, wordC, wordValue, Holds, Packed}
-
--- a signed number of 32 bits
-abbrev pub Fits32 : ℤ → Type 0
-Fits32 z = mag z < 2147483648
 
 pub bits-small : (z : ℤ) → Fits32 z → bits32 z < 4294967296
 unfolding bits32

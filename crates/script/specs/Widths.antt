@@ -3,14 +3,14 @@
 use Prim.Native.Nat.{ℕ, _<_}
 use mathlib.Core.List.{List}
 use lib.IntN.{ℤ, pos}
-use lib.Signed.{mag}
 use lib.ListN.{getD}
+use Rattle.lambdamix.specs.Arithmetic.{Fits32}
 use Rattle.lambdamix.specs.Script.{FunctionType, Node}
 use Rattle.script.specs.Tables.{Tables, rowType, rowInput, rowNode}
 
 -- every number of the list has 32 bits
 pub record AllFit (zs : List ℤ) : Type 0 where
-  pub fits : (j : ℕ) → mag (getD zs j (pos 0)) < 2147483648
+  pub fits : (j : ℕ) → Fits32 (getD zs j (pos 0))
 
 pub record EncodableType (t : FunctionType) : Type 0 where
   pub parameter : t .parameter < 65536
@@ -21,7 +21,7 @@ pub record EncodableNode (d : Node) : Type 0 where
   pub a : d .a < 65536
   pub b : d .b < 65536
   pub c : d .c < 65536
-  pub value : mag (d .value) < 2147483648
+  pub value : Fits32 (d .value)
 
 -- counts of 16 bits and tables as a caller lends them: columns of 16 bits but for the kinds, of 8, and the values, of 32, signed;
 -- past the end stand zeros
