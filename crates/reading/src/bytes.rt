@@ -2,7 +2,7 @@
 use script::column::at8;
 use script::word::signed;
 ghost use mathlib.Core.Path.{_≡_};
-ghost use Rattle.script.specs.Bytes.{word16, word32, signed32};
+ghost use Rattle.script.specs.Bytes.{number16, number32, signed32};
 
 fn wide8(x: u8) -> u16
     ensures { λ r. ⌜ r ≡ x ⌝ }
@@ -16,8 +16,8 @@ fn wide16(x: u16) -> u32
     x as u32
 }
 
-pub fn word16(s: &[u8], i: usize) -> u16
-    ensures { λ r. ⌜ r ≡ word16 (now (s .entry)) i ⌝ }
+pub fn number16(s: &[u8], i: usize) -> u16
+    ensures { λ r. ⌜ r ≡ number16 (now (s .entry)) i ⌝ }
 {
     if i < s.len() {
         let low = wide8(at8(s, i));
@@ -27,19 +27,19 @@ pub fn word16(s: &[u8], i: usize) -> u16
     0
 }
 
-pub fn word32(s: &[u8], i: usize) -> u32
-    ensures { λ r. ⌜ r ≡ word32 (now (s .entry)) i ⌝ }
+pub fn number32(s: &[u8], i: usize) -> u32
+    ensures { λ r. ⌜ r ≡ number32 (now (s .entry)) i ⌝ }
 {
     if i < s.len() {
-        let low = wide16(word16(s, i));
-        let high = wide16(word16(s, i + 2));
+        let low = wide16(number16(s, i));
+        let high = wide16(number16(s, i + 2));
         return low + 65536 * high;
     }
     0
 }
 
 pub fn value32(s: &[u8], i: usize) -> i32
-    ensures { λ r. ⌜ r ≡ signed32 (word32 (now (s .entry)) i) ⌝ }
+    ensures { λ r. ⌜ r ≡ signed32 (number32 (now (s .entry)) i) ⌝ }
 {
-    signed(word32(s, i))
+    signed(number32(s, i))
 }
