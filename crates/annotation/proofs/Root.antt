@@ -93,6 +93,6 @@ at-root {n} {ps} {rs} {is} {words} {before} {i} {r} t b c e a q = record {
       let f : i ≡ nodeCount s - 1 = omega arith in
       let lent = tables-lent n x ok p (t (omega (arith, type-count (n .types) (n .inputs) (n .nodes) x, sd .within .types))) in
       let st = a .reply s _ lent (inputs-lent n x ok (b (omega (arith, input-count (n .types) (n .inputs) (n .nodes) x, sd .within .inputs)))) (omega arith)
-      (omega (arith, input-count (n .types) (n .inputs) (n .nodes) x, sd .within .inputs, sd .low i (omega arith))) in
+      (omega (arith, input-count (n .types) (n .inputs) (n .nodes) x, sd .within .inputs, sd .within-height i (omega arith))) in
       q ∙ root-stands s sd i r st ∙ rw f;
 }
