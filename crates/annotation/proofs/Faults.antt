@@ -11,7 +11,7 @@ use Rattle.lambdamix.specs.Script.{Script}
 use Rattle.lambdamix.specs.Types.{Ty, typeOf}
 use Rattle.lambdamix.specs.Checker.{Checked, typed, faulty, lowerBy, lower, both, Verdict, rule, gather}
 use Rattle.lambdamix.proofs.Tests.{holds-or-fails}
-use Rattle.annotation.specs.AnswerWords.{pick, faultLimit, refusalIn, typeBase, typeIn, meaning, Stands, lowest}
+use Rattle.annotation.specs.AnswerWords.{pick, faultLimit, refusalIn, typeBase, typeIn, meaning, AnswersFor, lowest}
 
 -- some answer that is no fault
 pub data Right {A : Type 0} : Checked A → Type 0 where
@@ -22,7 +22,7 @@ pub record Told {A : Type 0} (m : ℕ) (x : Checked A) : Type 0 where
   pub fault : m < typeBase → x ≡ faulty (refusalIn m)
   pub no-fault : typeBase ≤ m → Right x
 
-pub told : {s : Script} {e : ℕ} {x : Checked Ty} → Stands s e x → Told e x
+pub told : {s : Script} {e : ℕ} {x : Checked Ty} → AnswersFor s e x → Told e x
 unfolding meaning
 told {s} {e} {x} p =
     record {
@@ -32,7 +32,7 @@ told {s} {e} {x} p =
 
 -- what an answer that is no fault stands for
 pub typed-answer :
-    {s : Script} {e : ℕ} {x : Checked Ty} → Stands s e x → typeBase ≤ e → x ≡ typed (typeOf s (typeIn e))
+    {s : Script} {e : ℕ} {x : Checked Ty} → AnswersFor s e x → typeBase ≤ e → x ≡ typed (typeOf s (typeIn e))
 unfolding meaning
 typed-answer {s} {e} p h = sym (p .said) ∙ rw (le-ltb e typeBase h)
 
@@ -142,7 +142,7 @@ both-types e f h =
 
 -- a fault goes before the node's own rule
 pub told-rule :
-    (s : Script) (i : ℕ) {A : Type 0} (R : A → Verdict) {m : ℕ} {x : Checked A} → Told m x → m < typeBase → Stands s m (rule i R x)
+    (s : Script) (i : ℕ) {A : Type 0} (R : A → Verdict) {m : ℕ} {x : Checked A} → Told m x → m < typeBase → AnswersFor s m (rule i R x)
 unfolding meaning rule
 told-rule s i R {m} p h =
     rw (p .fault h) (record { said = rw (lt-ltb m typeBase h); known = λ l. let z : ⊥ = omega arith in absurd z })

@@ -17,14 +17,14 @@ use Rattle.lambdamix.specs.Typing.{Context, bind}
 use Rattle.lambdamix.specs.Checker.{typed, both, gather, rule, own, provided, applyRule, fixRule, abstrBy, abstrRule, abstrDynRule, allDynamic, dynRule}
 use Rattle.lambdamix.specs.Checker.{check, checkAll}
 use Rattle.lambdamix.proofs.Tests.{holds-or-fails}
-use Rattle.annotation.specs.AnswerWords.{limit16, pairWord, typeBase, typeAnswer, typeIn, Stands, givenBy, parameterOf, resultOf, applyAnswer}
+use Rattle.annotation.specs.AnswerWords.{limit16, pairWord, typeBase, typeAnswer, typeIn, AnswersFor, givenBy, parameterOf, resultOf, applyAnswer}
 use Rattle.annotation.specs.AnswerWords.{fixAnswer, lowest}
 use Rattle.walks.proofs.TreeForms.{All, at-all}
-use Rattle.annotation.specs.Walks.{Lent, Listing, listed-at, not-listed, bound, Stand, none-left, child-then, other-then, places, inside, Ruled}
+use Rattle.annotation.specs.Walks.{Lent, Listing, listed-at, not-listed, bound, FieldsAnswer, none-left, child-then, other-then, places, inside, Ruled}
 use Rattle.script.proofs.Sound.{Sound, sound}
 use Rattle.annotation.proofs.TypeNumbers.{pair, parts, type-zero, type-one, same-dynamic, function-type, listed-pair, unlisted-pair, apply-numbers}
 use Rattle.annotation.proofs.TypeNumbers.{fix-numbers, lift-numbers, if-numbers, op-numbers, dynamic-function}
-use Rattle.annotation.proofs.Contexts.{type-stands, fault-stands, given-stands, bound-stands}
+use Rattle.annotation.proofs.Contexts.{type-answers, fault-answers, given-answers, bound-answers}
 use Rattle.annotation.proofs.Faults.{Told, told, told-alone, told-gather, told-first, told-second, told-both, both-types, told-rule, typed-answer}
 
 -- ---- the rules on numbers
@@ -38,21 +38,21 @@ module _ {s : Script} {words ts : List ℕ} (lent : Lent s words ts) (i : ℕ) (
   small = omega (arith, ok .within .nodes)
 
   -- a test on a function type's two numbers, and one of them, read from its word
-  word-stands :
+  word-answers :
       (test : ℕ → ℕ → Bool) (out : ℕ → ℕ → ℕ) →
       ((j : ℕ) → j < length (s .types) → out (pair s j .parameter) (pair s j .result) < 2 + j) → (f : ℕ) → f < typeCount s →
-      Stands s
+      AnswersFor s
       (givenBy (leb 2 f && test (parameterOf ts f) (resultOf ts f))
       (out (parameterOf ts f) (resultOf ts f)) i)
       (own i
       (provided (leb 2 f && test (pair s (f - 2) .parameter) (pair s (f - 2) .result))
       (typeOf s (out (pair s (f - 2) .parameter) (pair s (f - 2) .result)))))
   unfolding typeCount own provided
-  word-stands test out known f m = by-test (leb 2 f) refl
+  word-answers test out known f m = by-test (leb 2 f) refl
     where
       by-test :
           (b : Bool) → leb 2 f ≡ b →
-          Stands s
+          AnswersFor s
           (givenBy (b && test (parameterOf ts f) (resultOf ts f))
           (out (parameterOf ts f) (resultOf ts f)) i)
           (own i
@@ -63,26 +63,26 @@ module _ {s : Script} {words ts : List ℕ} (lent : Lent s words ts) (i : ℕ) (
           let k = known (f - 2) (omega arith) in
           let w = lent .types .each (f - 2) (omega arith) in
           rw (w .high, w .low)
-          (given-stands s ok (test (pair s (f - 2) .parameter) (pair s (f - 2) .result)) _ i small (λ _. omega arith))
-      by-test false e = fault-stands s 9 i (omega arith) small
+          (given-answers s ok (test (pair s (f - 2) .parameter) (pair s (f - 2) .result)) _ i small (λ _. omega arith))
+      by-test false e = fault-answers s 9 i (omega arith) small
 
-  apply-stands :
+  apply-answers :
       (f t : ℕ) → f < typeCount s → t < typeCount s →
-      Stands s (applyAnswer ts i f t) (own i (applyRule (typeOf s f) (typeOf s t)))
-  apply-stands f t m l =
-      rw (apply-numbers s ok f t m l) (word-stands (λ p r. eqb p t) (λ p r. r) (λ j k. parts s ok j k .1) f m)
+      AnswersFor s (applyAnswer ts i f t) (own i (applyRule (typeOf s f) (typeOf s t)))
+  apply-answers f t m l =
+      rw (apply-numbers s ok f t m l) (word-answers (λ p r. eqb p t) (λ p r. r) (λ j k. parts s ok j k .1) f m)
 
-  fix-stands :
+  fix-answers :
       (f : ℕ) → f < typeCount s →
-      Stands s (fixAnswer ts i f) (own i (fixRule (typeOf s f)))
-  fix-stands f m =
-      rw (fix-numbers s ok f m) (word-stands (λ p r. leb 2 p && eqb p r) (λ p r. p) (λ j k. parts s ok j k .0) f m)
+      AnswersFor s (fixAnswer ts i f) (own i (fixRule (typeOf s f)))
+  fix-answers f m =
+      rw (fix-numbers s ok f m) (word-answers (λ p r. leb 2 p && eqb p r) (λ p r. p) (λ j k. parts s ok j k .0) f m)
 
-  function-stands :
+  function-answers :
       {r t u : ℕ} → Listing ts (pairWord t u) i r → t < typeCount s → u < typeCount s →
-      Stands s r (own i (abstrRule s (typeOf s t) (typeOf s u)))
+      AnswersFor s r (own i (abstrRule s (typeOf s t) (typeOf s u)))
   unfolding abstrRule abstrBy own typeCount maxTypes
-  function-stands {t} {u} (listed-at j l e) m k =
+  function-answers {t} {u} (listed-at j l e) m k =
       let few = ok .within .types in
       ⊎-elim
       (λ b.
@@ -92,13 +92,13 @@ module _ {s : Script} {words ts : List ℕ} (lent : Lent s words ts) (i : ℕ) (
       let x = w .low in
       let p : pair s j .parameter ≡ t = omega arith in
       let q : pair s j .result ≡ u = omega arith in
-      rw (← p, ← q, listed-pair s ok j c, ← function-type s ok j c) (type-stands s ok (2 + j) (omega arith)))
+      rw (← p, ← q, listed-pair s ok j c, ← function-type s ok j c) (type-answers s ok (2 + j) (omega arith)))
       (λ b. let w = lent .types .past j (ltb-false _ _ b) l in let z : ⊥ = omega arith in absurd z)
       (holds-or-fails (ltb j (length (s .types))))
-  function-stands {t} {u} (not-listed other) m k =
+  function-answers {t} {u} (not-listed other) m k =
       let few = ok .within .types in
       rw (unlisted-pair s ok t u m k (λ j b p q. let w = lent .types .each j b in let v = w .high in let x = w .low in other j (omega arith) (omega arith)))
-      (fault-stands s 10 i (omega arith) small)
+      (fault-answers s 10 i (omega arith) small)
 
 -- ---- the fault among the answers at a node's fields, by those that are children
 
@@ -109,13 +109,13 @@ neutral = omega arith
 
 module _ {s : Script} {Γ : Context} where
   no-fault :
-      {e f g : ℕ} {ts : Terms} → Stand s Γ (false ∷ false ∷ false ∷ []) (e ∷ f ∷ g ∷ []) ts → lowest e (lowest f g) < typeBase → ⊥
+      {e f g : ℕ} {ts : Terms} → FieldsAnswer s Γ (false ∷ false ∷ false ∷ []) (e ∷ f ∷ g ∷ []) ts → lowest e (lowest f g) < typeBase → ⊥
   unfolding lowest
   no-fault (other-then (other-then (other-then none-left))) l = omega arith
 
   -- the fault of the children as a static step takes them, and as a dynamic one does
   told-one :
-      {e f g : ℕ} {ts : Terms} → Stand s Γ (true ∷ false ∷ false ∷ []) (e ∷ f ∷ g ∷ []) ts →
+      {e f g : ℕ} {ts : Terms} → FieldsAnswer s Γ (true ∷ false ∷ false ∷ []) (e ∷ f ∷ g ∷ []) ts →
       Told (lowest e (lowest f g)) (check s Γ (childAt ts 0)) × Told (lowest e (lowest f g)) (checkAll s Γ ts)
   unfolding childAt checkAll
   told-one (child-then p (other-then (other-then none-left))) =
@@ -123,13 +123,13 @@ module _ {s : Script} {Γ : Context} where
       (q, told-gather (told-alone q _))
 
   told-last :
-      {e f g : ℕ} {ts : Terms} → Stand s Γ (false ∷ false ∷ true ∷ []) (e ∷ f ∷ g ∷ []) ts →
+      {e f g : ℕ} {ts : Terms} → FieldsAnswer s Γ (false ∷ false ∷ true ∷ []) (e ∷ f ∷ g ∷ []) ts →
       Told (lowest e (lowest f g)) (check s Γ (childAt ts 0))
   unfolding childAt
   told-last (other-then (other-then (child-then p none-left))) = told-second (told-second (told p) (omega arith)) (omega arith)
 
   told-two :
-      {e f g : ℕ} {ts : Terms} → Stand s Γ (true ∷ true ∷ false ∷ []) (e ∷ f ∷ g ∷ []) ts →
+      {e f g : ℕ} {ts : Terms} → FieldsAnswer s Γ (true ∷ true ∷ false ∷ []) (e ∷ f ∷ g ∷ []) ts →
       Told (lowest e (lowest f g)) (both (check s Γ (childAt ts 0)) (check s Γ (childAt ts 1)))
       × Told (lowest e (lowest f g)) (checkAll s Γ ts)
   unfolding childAt checkAll
@@ -138,7 +138,7 @@ module _ {s : Script} {Γ : Context} where
       (told-both (told p) r, told-gather (told-both (told p) (told-gather (told-alone r _))))
 
   told-three :
-      {e f g : ℕ} {ts : Terms} → Stand s Γ (true ∷ true ∷ true ∷ []) (e ∷ f ∷ g ∷ []) ts →
+      {e f g : ℕ} {ts : Terms} → FieldsAnswer s Γ (true ∷ true ∷ true ∷ []) (e ∷ f ∷ g ∷ []) ts →
       Told (lowest e (lowest f g)) (both (check s Γ (childAt ts 0)) (both (check s Γ (childAt ts 1)) (check s Γ (childAt ts 2))))
       × Told (lowest e (lowest f g)) (checkAll s Γ ts)
   unfolding childAt checkAll
@@ -148,7 +148,7 @@ module _ {s : Script} {Γ : Context} where
   )
 
 told-late :
-    {s : Script} {Γ : Context} {y e f g : ℕ} {ts : Terms} → Stand s (bind y (typeOf s 1) Γ) (false ∷ false ∷ true ∷ []) (e ∷ f ∷ g ∷ []) ts →
+    {s : Script} {Γ : Context} {y e f g : ℕ} {ts : Terms} → FieldsAnswer s (bind y (typeOf s 1) Γ) (false ∷ false ∷ true ∷ []) (e ∷ f ∷ g ∷ []) ts →
     Told (lowest e (lowest f g)) (check s (bind y D Γ) (childAt ts 0))
 told-late {s} st = rw (← type-one s) (told-last st)
 
@@ -156,8 +156,8 @@ told-late {s} st = rw (← type-one s) (told-last st)
 module _ (s : Script) (Γ : Context) (i : ℕ) (nd : Node) (e f g : ℕ) (ts : Terms) (l : lowest e (lowest f g) < typeBase) where
   abbrev FaultFirst : Row → Type 0
   FaultFirst r =
-      Stand s (inside s Γ (r .uses) nd) (places (r .uses)) (e ∷ f ∷ g ∷ []) ts →
-      Stands s (lowest e (lowest f g)) (check s Γ (build (r .step) i nd ts))
+      FieldsAnswer s (inside s Γ (r .uses) nd) (places (r .uses)) (e ∷ f ∷ g ∷ []) ts →
+      AnswersFor s (lowest e (lowest f g)) (check s Γ (build (r .step) i nd ts))
 
   no-row : All FaultFirst []
   unfolding All
@@ -195,23 +195,23 @@ Typed s Γ e t = (check s Γ t ≡ typed (typeOf s (typeIn e))) × (typeIn e < t
 
 module _ {s : Script} {Γ : Context} where
   one-typed :
-      {e f g : ℕ} {ts : Terms} → Stand s Γ (true ∷ false ∷ false ∷ []) (e ∷ f ∷ g ∷ []) ts → typeBase ≤ e → Typed s Γ e (childAt ts 0)
+      {e f g : ℕ} {ts : Terms} → FieldsAnswer s Γ (true ∷ false ∷ false ∷ []) (e ∷ f ∷ g ∷ []) ts → typeBase ≤ e → Typed s Γ e (childAt ts 0)
   unfolding childAt
   one-typed (child-then p _) l = (typed-answer p l, p .known l)
 
   last-typed :
-      {e f g : ℕ} {ts : Terms} → Stand s Γ (false ∷ false ∷ true ∷ []) (e ∷ f ∷ g ∷ []) ts → typeBase ≤ g → Typed s Γ g (childAt ts 0)
+      {e f g : ℕ} {ts : Terms} → FieldsAnswer s Γ (false ∷ false ∷ true ∷ []) (e ∷ f ∷ g ∷ []) ts → typeBase ≤ g → Typed s Γ g (childAt ts 0)
   unfolding childAt
   last-typed (other-then (other-then (child-then p _))) l = (typed-answer p l, p .known l)
 
   two-typed :
-      {e f g : ℕ} {ts : Terms} → Stand s Γ (true ∷ true ∷ false ∷ []) (e ∷ f ∷ g ∷ []) ts → typeBase ≤ e → typeBase ≤ f →
+      {e f g : ℕ} {ts : Terms} → FieldsAnswer s Γ (true ∷ true ∷ false ∷ []) (e ∷ f ∷ g ∷ []) ts → typeBase ≤ e → typeBase ≤ f →
       Typed s Γ e (childAt ts 0) × Typed s Γ f (childAt ts 1)
   unfolding childAt
   two-typed (child-then p (child-then q _)) l m = ((typed-answer p l, p .known l), (typed-answer q m, q .known m))
 
   three-typed :
-      {e f g : ℕ} {ts : Terms} → Stand s Γ (true ∷ true ∷ true ∷ []) (e ∷ f ∷ g ∷ []) ts → typeBase ≤ e → typeBase ≤ f → typeBase ≤ g →
+      {e f g : ℕ} {ts : Terms} → FieldsAnswer s Γ (true ∷ true ∷ true ∷ []) (e ∷ f ∷ g ∷ []) ts → typeBase ≤ e → typeBase ≤ f → typeBase ≤ g →
       Typed s Γ e (childAt ts 0) × Typed s Γ f (childAt ts 1) × Typed s Γ g (childAt ts 2)
   unfolding childAt
   three-typed (child-then p (child-then q (child-then r _))) l m n =
@@ -239,7 +239,7 @@ allD (e ∷ es) = eqb (typeIn e) 1 && allD es
 
 module _ {s : Script} (ok : Sound s) {Γ : Context} where
   late-types :
-      {bs : List Bool} {es : List ℕ} {ts : Terms} → Stand s Γ bs es ts → All (λ e. typeBase ≤ e) es →
+      {bs : List Bool} {es : List ℕ} {ts : Terms} → FieldsAnswer s Γ bs es ts → All (λ e. typeBase ≤ e) es →
       (us : List Ty) × (checkAll s Γ ts ≡ typed us) × (allDynamic (count bs) us ≡ allD es)
   unfolding All checkAll both gather count allD allDynamic
   late-types none-left l = ([], refl, refl)
@@ -274,26 +274,26 @@ lateAnswer i e f g = givenBy (eqb (typeIn e) 1 && (eqb (typeIn f) 1 && eqb (type
 
 module _ {s : Script} {words ls : List ℕ} (lent : Lent s words ls) (Γ : Context) {i : ℕ} (h : i < nodeCount s) where
   late-list :
-      {a b c : Bool} {e f g : ℕ} {ts : Terms} → Stand s Γ (a ∷ b ∷ c ∷ []) (e ∷ f ∷ g ∷ []) ts → typeBase ≤ e → typeBase ≤ f → typeBase ≤ g →
-      Stands s (lateAnswer i e f g) (rule i (dynRule (count (a ∷ b ∷ c ∷ []))) (checkAll s Γ ts))
+      {a b c : Bool} {e f g : ℕ} {ts : Terms} → FieldsAnswer s Γ (a ∷ b ∷ c ∷ []) (e ∷ f ∷ g ∷ []) ts → typeBase ≤ e → typeBase ≤ f → typeBase ≤ g →
+      AnswersFor s (lateAnswer i e f g) (rule i (dynRule (count (a ∷ b ∷ c ∷ []))) (checkAll s Γ ts))
   unfolding All rule dynRule allD typeCount
   late-list {e = e} {f} {g} st l m n =
       let (us, c, d) = late-types (ok lent i h) st (l, (m, (n, tt))) in
-      let q = given-stands s (ok lent i h) (eqb (typeIn e) 1 && (eqb (typeIn f) 1 && eqb (typeIn g) 1)) 1 i (small lent i h) (λ _. omega arith) in
+      let q = given-answers s (ok lent i h) (eqb (typeIn e) 1 && (eqb (typeIn f) 1 && eqb (typeIn g) 1)) 1 i (small lent i h) (λ _. omega arith) in
       rw (c, d, and-true (eqb (typeIn g) 1)) (rw (type-one s) at q)
 
   late-body :
-      {y e f g : ℕ} {ts : Terms} → Stand s (bind y (typeOf s 1) Γ) (false ∷ false ∷ true ∷ []) (e ∷ f ∷ g ∷ []) ts → typeBase ≤ g →
-      Stands s (lateAnswer i e f g) (rule i abstrDynRule (check s (bind y D Γ) (childAt ts 0)))
+      {y e f g : ℕ} {ts : Terms} → FieldsAnswer s (bind y (typeOf s 1) Γ) (false ∷ false ∷ true ∷ []) (e ∷ f ∷ g ∷ []) ts → typeBase ≤ g →
+      AnswersFor s (lateAnswer i e f g) (rule i abstrDynRule (check s (bind y D Γ) (childAt ts 0)))
   unfolding childAt rule typeCount
   late-body {g = g} (other-then (other-then (child-then p none-left))) l =
       rw (← type-one s, typed-answer p l, dynamic-function s (ok lent i h) (typeIn g) (p .known l))
-      (given-stands s (ok lent i h) _ 1 i (small lent i h) (λ _. omega arith))
+      (given-answers s (ok lent i h) _ 1 i (small lent i h) (λ _. omega arith))
 
   late-row :
       {k e f g : ℕ} (nd : Node) {ts : Terms} → Late k →
-      Stand s (inside s Γ (getD rows k blankRow .uses) nd) (places (getD rows k blankRow .uses)) (e ∷ f ∷ g ∷ []) ts →
-      typeBase ≤ e → typeBase ≤ f → typeBase ≤ g → Stands s (lateAnswer i e f g) (check s Γ (build (getD rows k blankRow .step) i nd ts))
+      FieldsAnswer s (inside s Γ (getD rows k blankRow .uses) nd) (places (getD rows k blankRow .uses)) (e ∷ f ∷ g ∷ []) ts →
+      typeBase ≤ e → typeBase ≤ f → typeBase ≤ g → AnswersFor s (lateAnswer i e f g) (check s Γ (build (getD rows k blankRow .step) i nd ts))
   unfolding rows build check arity count
   late-row nd late-function st l m n = late-body st n
   late-row nd late-application st l m n = late-list st l m n
@@ -315,13 +315,13 @@ module _ {ls stack : List ℕ} {d i k x p e f g j r : ℕ} (jk : j ≡ k) where
   unfolding rows build check typeCount
   constant-ruled q y =
       rw (← jk, q, y)
-      (record { reply = λ words s Γ nd ts lent h b few vis. rw (← type-zero s) (type-stands s (ok lent i h) 0 (omega arith)) })
+      (record { reply = λ words s Γ nd ts lent h b few vis. rw (← type-zero s) (type-answers s (ok lent i h) 0 (omega arith)) })
 
   pub variable-ruled : {y : ℕ} → j ≡ 1 → y ≡ x → (d ≤ length stack → r ≡ bound stack y i d) → Ruled ls stack d i k x p e f g r
   unfolding rows build check
   variable-ruled q z y =
       rw (← jk, q)
-      (record { reply = λ words s Γ nd ts lent h b few vis. rw (y few, z, vis .name) (bound-stands s (ok lent i h) i (nd .a) (small lent i h) b) })
+      (record { reply = λ words s Γ nd ts lent h b few vis. rw (y few, z, vis .name) (bound-answers s (ok lent i h) i (nd .a) (small lent i h) b) })
 
 module _ {ls stack : List ℕ} {d i k x p e f g n m : ℕ} (c : n ≡ lowest f g) (a : m ≡ lowest e n) where
   pub fault-ruled : m < typeBase → Ruled ls stack d i k x p e f g m
@@ -337,7 +337,7 @@ module _ {ls stack : List ℕ} {d i k x p e f g n m : ℕ} (c : n ≡ lowest f g
         (record {
           reply = λ words s Γ nd ts lent h b few vis.
               let (z, kn) = one-typed (vis .fields) le in
-              rw (z, lift-numbers s (ok lent i h) (typeIn e) kn) (given-stands s (ok lent i h) _ 1 i (small lent i h) (λ _. omega arith));
+              rw (z, lift-numbers s (ok lent i h) (typeIn e) kn) (given-answers s (ok lent i h) _ 1 i (small lent i h) (λ _. omega arith));
         })
 
     pub function-ruled : j ≡ 3 → (maxTypes ≤ length ls → Listing ls (pairWord p v) i r) → Ruled ls stack d i k x p e f g r
@@ -348,7 +348,7 @@ module _ {ls stack : List ℕ} {d i k x p e f g n m : ℕ} (c : n ≡ lowest f g
         (record {
           reply = λ words s Γ nd ts lent h b few vis.
               let (z, kn) = last-typed (vis .fields) lg in
-              rw (z, ← vis .parameter) (function-stands lent i h {t = p} {u = typeIn g} (rw vg at (y (lent .types .room))) (vis .listed) kn);
+              rw (z, ← vis .parameter) (function-answers lent i h {t = p} {u = typeIn g} (rw vg at (y (lent .types .room))) (vis .listed) kn);
         })
 
     pub apply-ruled : j ≡ 4 → r ≡ applyAnswer ls i t u → Ruled ls stack d i k x p e f g r
@@ -359,7 +359,7 @@ module _ {ls stack : List ℕ} {d i k x p e f g n m : ℕ} (c : n ≡ lowest f g
         (record {
           reply = λ words s Γ nd ts lent h b few vis.
               let ((z, kn), (o, km)) = two-typed (vis .fields) le lf in
-              rw (z, o) (apply-stands lent i h (typeIn e) (typeIn f) kn km);
+              rw (z, o) (apply-answers lent i h (typeIn e) (typeIn f) kn km);
         })
 
     pub fix-ruled : j ≡ 5 → r ≡ fixAnswer ls i t → Ruled ls stack d i k x p e f g r
@@ -367,7 +367,7 @@ module _ {ls stack : List ℕ} {d i k x p e f g n m : ℕ} (c : n ≡ lowest f g
     fix-ruled q y =
         let (le, lf, lg) = three-types c a l in
         rw (← jk, q, y, te)
-        (record { reply = λ words s Γ nd ts lent h b few vis. let (z, kn) = one-typed (vis .fields) le in rw z (fix-stands lent i h (typeIn e) kn) })
+        (record { reply = λ words s Γ nd ts lent h b few vis. let (z, kn) = one-typed (vis .fields) le in rw z (fix-answers lent i h (typeIn e) kn) })
 
     pub if-ruled : {o : Bool} → j ≡ 6 → o ≡ (eqb t 0 && eqb u v) → r ≡ givenBy o u i → Ruled ls stack d i k x p e f g r
     unfolding rows build check both rule
@@ -378,7 +378,7 @@ module _ {ls stack : List ℕ} {d i k x p e f g n m : ℕ} (c : n ≡ lowest f g
           reply = λ words s Γ nd ts lent h b few vis.
               let ((z, kz), (w, kw), (y, ky)) = three-typed (vis .fields) le lf lg in
               rw (z, w, y, if-numbers s (ok lent i h) (typeIn e) (typeIn f) (typeIn g) kz kw ky)
-              (given-stands s (ok lent i h) _ (typeIn f) i (small lent i h) (λ _. kw));
+              (given-answers s (ok lent i h) _ (typeIn f) i (small lent i h) (λ _. kw));
         })
 
     pub operation-ruled : {o : Bool} → j ≡ 7 → o ≡ (eqb t 0 && eqb u 0) → r ≡ givenBy o 0 i → Ruled ls stack d i k x p e f g r
@@ -390,7 +390,7 @@ module _ {ls stack : List ℕ} {d i k x p e f g n m : ℕ} (c : n ≡ lowest f g
           reply = λ words s Γ nd ts lent h b few vis.
               let ((z, kz), (w, kw)) = two-typed (vis .fields) le lf in
               rw (z, w, op-numbers s (ok lent i h) (typeIn e) (typeIn f) kz kw)
-              (given-stands s (ok lent i h) _ 0 i (small lent i h) (λ _. omega arith));
+              (given-answers s (ok lent i h) _ 0 i (small lent i h) (λ _. omega arith));
         })
 
     pub late-ruled :
