@@ -25,7 +25,7 @@ use Rattle.script.proofs.Sound.{Sound, sound}
 use Rattle.annotation.proofs.TypeNumbers.{pair, parts, type-zero, type-one, same-dynamic, function-type, listed-pair, unlisted-pair, apply-numbers}
 use Rattle.annotation.proofs.TypeNumbers.{fix-numbers, lift-numbers, if-numbers, op-numbers, dynamic-function}
 use Rattle.annotation.proofs.Contexts.{type-answers, fault-answers, given-answers, bound-answers}
-use Rattle.annotation.proofs.Faults.{Told, told, told-alone, told-gather, told-first, told-second, told-both, both-types, told-rule, typed-answer}
+use Rattle.annotation.proofs.Faults.{TellsFault, answer-fault, fault-alone, fault-gathered, fault-then-type, type-then-fault, fault-of-both, both-types, fault-before-rule, typed-answer}
 
 -- ---- the rules on numbers
 
@@ -114,43 +114,43 @@ module _ {s : Script} {Γ : Context} where
   no-fault (other-then (other-then (other-then none-left))) l = omega arith
 
   -- the fault of the children as a static step takes them, and as a dynamic one does
-  told-one :
+  one-child-fault :
       {e f g : ℕ} {ts : Terms} → FieldsAnswer s Γ (true ∷ false ∷ false ∷ []) (e ∷ f ∷ g ∷ []) ts →
-      Told (lowest e (lowest f g)) (check s Γ (childAt ts 0)) × Told (lowest e (lowest f g)) (checkAll s Γ ts)
+      TellsFault (lowest e (lowest f g)) (check s Γ (childAt ts 0)) × TellsFault (lowest e (lowest f g)) (checkAll s Γ ts)
   unfolding childAt checkAll
-  told-one (child-then p (other-then (other-then none-left))) =
-      let q = told-first (told p) neutral in
-      (q, told-gather (told-alone q _))
+  one-child-fault (child-then p (other-then (other-then none-left))) =
+      let q = fault-then-type (answer-fault p) neutral in
+      (q, fault-gathered (fault-alone q _))
 
-  told-last :
+  last-child-fault :
       {e f g : ℕ} {ts : Terms} → FieldsAnswer s Γ (false ∷ false ∷ true ∷ []) (e ∷ f ∷ g ∷ []) ts →
-      Told (lowest e (lowest f g)) (check s Γ (childAt ts 0))
+      TellsFault (lowest e (lowest f g)) (check s Γ (childAt ts 0))
   unfolding childAt
-  told-last (other-then (other-then (child-then p none-left))) = told-second (told-second (told p) (omega arith)) (omega arith)
+  last-child-fault (other-then (other-then (child-then p none-left))) = type-then-fault (type-then-fault (answer-fault p) (omega arith)) (omega arith)
 
-  told-two :
+  two-children-fault :
       {e f g : ℕ} {ts : Terms} → FieldsAnswer s Γ (true ∷ true ∷ false ∷ []) (e ∷ f ∷ g ∷ []) ts →
-      Told (lowest e (lowest f g)) (both (check s Γ (childAt ts 0)) (check s Γ (childAt ts 1)))
-      × Told (lowest e (lowest f g)) (checkAll s Γ ts)
+      TellsFault (lowest e (lowest f g)) (both (check s Γ (childAt ts 0)) (check s Γ (childAt ts 1)))
+      × TellsFault (lowest e (lowest f g)) (checkAll s Γ ts)
   unfolding childAt checkAll
-  told-two (child-then p (child-then q (other-then none-left))) =
-      let r = told-first {n = typeAnswer 1} (told q) (omega arith) in
-      (told-both (told p) r, told-gather (told-both (told p) (told-gather (told-alone r _))))
+  two-children-fault (child-then p (child-then q (other-then none-left))) =
+      let r = fault-then-type {n = typeAnswer 1} (answer-fault q) (omega arith) in
+      (fault-of-both (answer-fault p) r, fault-gathered (fault-of-both (answer-fault p) (fault-gathered (fault-alone r _))))
 
-  told-three :
+  three-children-fault :
       {e f g : ℕ} {ts : Terms} → FieldsAnswer s Γ (true ∷ true ∷ true ∷ []) (e ∷ f ∷ g ∷ []) ts →
-      Told (lowest e (lowest f g)) (both (check s Γ (childAt ts 0)) (both (check s Γ (childAt ts 1)) (check s Γ (childAt ts 2))))
-      × Told (lowest e (lowest f g)) (checkAll s Γ ts)
+      TellsFault (lowest e (lowest f g)) (both (check s Γ (childAt ts 0)) (both (check s Γ (childAt ts 1)) (check s Γ (childAt ts 2))))
+      × TellsFault (lowest e (lowest f g)) (checkAll s Γ ts)
   unfolding childAt checkAll
-  told-three (child-then p (child-then q (child-then r none-left))) = (
-    told-both (told p) (told-both (told q) (told r)),
-    told-gather (told-both (told p) (told-gather (told-both (told q) (told-gather (told-alone (told r) _))))),
+  three-children-fault (child-then p (child-then q (child-then r none-left))) = (
+    fault-of-both (answer-fault p) (fault-of-both (answer-fault q) (answer-fault r)),
+    fault-gathered (fault-of-both (answer-fault p) (fault-gathered (fault-of-both (answer-fault q) (fault-gathered (fault-alone (answer-fault r) _))))),
   )
 
-told-late :
+late-body-fault :
     {s : Script} {Γ : Context} {y e f g : ℕ} {ts : Terms} → FieldsAnswer s (bind y (typeOf s 1) Γ) (false ∷ false ∷ true ∷ []) (e ∷ f ∷ g ∷ []) ts →
-    Told (lowest e (lowest f g)) (check s (bind y D Γ) (childAt ts 0))
-told-late {s} st = rw (← type-one s) (told-last st)
+    TellsFault (lowest e (lowest f g)) (check s (bind y D Γ) (childAt ts 0))
+late-body-fault {s} st = rw (← type-one s) (last-child-fault st)
 
 -- a fault goes before the rule of each row
 module _ (s : Script) (Γ : Context) (i : ℕ) (nd : Node) (e f g : ℕ) (ts : Terms) (l : lowest e (lowest f g) < typeBase) where
@@ -172,17 +172,17 @@ module _ (s : Script) (Γ : Context) (i : ℕ) (nd : Node) (e f g : ℕ) (ts : T
   fault-rows =
       and-row _ _ (λ st. absurd (no-fault st l))
       (and-row _ _ (λ st. absurd (no-fault st l))
-      (and-row _ _ (λ st. told-rule s i _ (told-one st .0) l)
-      (and-row _ _ (λ st. told-rule s i _ (told-last st) l)
-      (and-row _ _ (λ st. told-rule s i _ (told-two st .0) l)
-      (and-row _ _ (λ st. told-rule s i _ (told-one st .0) l)
-      (and-row _ _ (λ st. told-rule s i _ (told-three st .0) l)
-      (and-row _ _ (λ st. told-rule s i _ (told-two st .0) l)
-      (and-row _ _ (λ st. told-rule s i _ (told-late st) l)
-      (and-row _ _ (λ st. told-rule s i _ (told-two st .1) l)
-      (and-row _ _ (λ st. told-rule s i _ (told-one st .1) l)
-      (and-row _ _ (λ st. told-rule s i _ (told-three st .1) l)
-      (and-row _ _ (λ st. told-rule s i _ (told-two st .1) l) no-row))))))))))))
+      (and-row _ _ (λ st. fault-before-rule s i _ (one-child-fault st .0) l)
+      (and-row _ _ (λ st. fault-before-rule s i _ (last-child-fault st) l)
+      (and-row _ _ (λ st. fault-before-rule s i _ (two-children-fault st .0) l)
+      (and-row _ _ (λ st. fault-before-rule s i _ (one-child-fault st .0) l)
+      (and-row _ _ (λ st. fault-before-rule s i _ (three-children-fault st .0) l)
+      (and-row _ _ (λ st. fault-before-rule s i _ (two-children-fault st .0) l)
+      (and-row _ _ (λ st. fault-before-rule s i _ (late-body-fault st) l)
+      (and-row _ _ (λ st. fault-before-rule s i _ (two-children-fault st .1) l)
+      (and-row _ _ (λ st. fault-before-rule s i _ (one-child-fault st .1) l)
+      (and-row _ _ (λ st. fault-before-rule s i _ (three-children-fault st .1) l)
+      (and-row _ _ (λ st. fault-before-rule s i _ (two-children-fault st .1) l) no-row))))))))))))
 
   fault-first : (k : ℕ) → FaultFirst (getD rows k blankRow)
   fault-first k = at-all FaultFirst blankRow rows (λ st. absurd (no-fault st l)) fault-rows k
