@@ -16,16 +16,20 @@ use Rattle.lambdamix.specs.Types.{Ty, D, typeOf, typeCount}
 use Rattle.lambdamix.specs.Typing.{Context, bind}
 use Rattle.lambdamix.specs.Checker.{typed, both, gather, rule, own, provided, applyRule, fixRule, abstrBy, abstrRule, abstrDynRule, allDynamic, dynRule}
 use Rattle.lambdamix.specs.Checker.{check, checkAll}
+use Rattle.lambdamix.proofs.KindCases.{KindOf, kind-of, constant-kind, variable-kind, lift-kind, function-kind, application-kind, fix-kind, conditional-kind}
+use Rattle.lambdamix.proofs.KindCases.{operation-kind, dynamic-function-kind, dynamic-application-kind, dynamic-fix-kind, dynamic-if-kind}
+use Rattle.lambdamix.proofs.KindCases.{dynamic-operation-kind}
 use Rattle.lambdamix.proofs.Tests.{holds-or-fails}
 use Rattle.annotation.specs.AnswerWords.{limit16, pairWord, typeBase, typeAnswer, typeIn, AnswersFor, givenBy, parameterOf, resultOf, applyAnswer}
 use Rattle.annotation.specs.AnswerWords.{fixAnswer, lowest}
-use Rattle.walks.proofs.TreeForms.{All, at-all}
+use Rattle.walks.proofs.TreeForms.{All}
 use Rattle.annotation.specs.Walks.{Lent, Listing, listed-at, not-listed, bound, FieldsAnswer, none-left, child-then, other-then, places, inside, Ruled}
 use Rattle.script.proofs.Sound.{Sound, sound}
 use Rattle.annotation.proofs.TypeNumbers.{pair, parts, type-zero, type-one, same-dynamic, function-type, listed-pair, unlisted-pair, apply-numbers}
 use Rattle.annotation.proofs.TypeNumbers.{fix-numbers, lift-numbers, if-numbers, op-numbers, dynamic-function}
 use Rattle.annotation.proofs.Contexts.{type-answers, fault-answers, given-answers, bound-answers}
-use Rattle.annotation.proofs.Faults.{TellsFault, answer-fault, fault-alone, fault-gathered, fault-then-type, type-then-fault, fault-of-both, both-types, fault-before-rule, typed-answer}
+use Rattle.annotation.proofs.Faults.{TellsFault, answer-fault, fault-alone, fault-gathered, fault-then-type, type-then-fault, fault-of-both}
+use Rattle.annotation.proofs.Faults.{both-types, fault-before-rule, typed-answer}
 
 -- ---- the rules on numbers
 
@@ -159,33 +163,21 @@ module _ (s : Script) (Γ : Context) (i : ℕ) (nd : Node) (e f g : ℕ) (ts : T
       FieldsAnswer s (inside s Γ (r .uses) nd) (places (r .uses)) (e ∷ f ∷ g ∷ []) ts →
       AnswersFor s (lowest e (lowest f g)) (check s Γ (build (r .step) i nd ts))
 
-  no-row : All FaultFirst []
-  unfolding All
-  no-row = tt
-
-  and-row : (r : Row) (rs : List Row) → FaultFirst r → All FaultFirst rs → All FaultFirst (r ∷ rs)
-  unfolding All
-  and-row r rs p q = (p, q)
-
-  fault-rows : All FaultFirst rows
+  fault-first : {k : ℕ} → KindOf k → FaultFirst (getD rows k blankRow)
   unfolding rows build check arity
-  fault-rows =
-      and-row _ _ (λ st. absurd (no-fault st l))
-      (and-row _ _ (λ st. absurd (no-fault st l))
-      (and-row _ _ (λ st. fault-before-rule s i _ (one-child-fault st .0) l)
-      (and-row _ _ (λ st. fault-before-rule s i _ (last-child-fault st) l)
-      (and-row _ _ (λ st. fault-before-rule s i _ (two-children-fault st .0) l)
-      (and-row _ _ (λ st. fault-before-rule s i _ (one-child-fault st .0) l)
-      (and-row _ _ (λ st. fault-before-rule s i _ (three-children-fault st .0) l)
-      (and-row _ _ (λ st. fault-before-rule s i _ (two-children-fault st .0) l)
-      (and-row _ _ (λ st. fault-before-rule s i _ (late-body-fault st) l)
-      (and-row _ _ (λ st. fault-before-rule s i _ (two-children-fault st .1) l)
-      (and-row _ _ (λ st. fault-before-rule s i _ (one-child-fault st .1) l)
-      (and-row _ _ (λ st. fault-before-rule s i _ (three-children-fault st .1) l)
-      (and-row _ _ (λ st. fault-before-rule s i _ (two-children-fault st .1) l) no-row))))))))))))
-
-  fault-first : (k : ℕ) → FaultFirst (getD rows k blankRow)
-  fault-first k = at-all FaultFirst blankRow rows (λ st. absurd (no-fault st l)) fault-rows k
+  fault-first constant-kind st = absurd (no-fault st l)
+  fault-first variable-kind st = absurd (no-fault st l)
+  fault-first lift-kind st = fault-before-rule s i _ (one-child-fault st .0) l
+  fault-first function-kind st = fault-before-rule s i _ (last-child-fault st) l
+  fault-first application-kind st = fault-before-rule s i _ (two-children-fault st .0) l
+  fault-first fix-kind st = fault-before-rule s i _ (one-child-fault st .0) l
+  fault-first conditional-kind st = fault-before-rule s i _ (three-children-fault st .0) l
+  fault-first operation-kind st = fault-before-rule s i _ (two-children-fault st .0) l
+  fault-first dynamic-function-kind st = fault-before-rule s i _ (late-body-fault st) l
+  fault-first dynamic-application-kind st = fault-before-rule s i _ (two-children-fault st .1) l
+  fault-first dynamic-fix-kind st = fault-before-rule s i _ (one-child-fault st .1) l
+  fault-first dynamic-if-kind st = fault-before-rule s i _ (three-children-fault st .1) l
+  fault-first dynamic-operation-kind st = fault-before-rule s i _ (two-children-fault st .1) l
 
 -- ---- the types of a node's children
 
@@ -248,27 +240,6 @@ module _ {s : Script} (ok : Sound s) {Γ : Context} where
       (typeOf s (typeIn e) ∷ us, rw (typed-answer p (l .0), c), rw (same-dynamic s ok (typeIn e) (p .known (l .0)), d))
   late-types (other-then st) l = late-types st (l .1)
 
--- the late kinds
-data Late : ℕ → Type 0 where
-  late-function : Late 8
-  late-application : Late 9
-  late-fix : Late 10
-  late-if : Late 11
-  late-operation : Late 12
-
-late-from : (j : ℕ) → j < 5 → Late (8 + j)
-late-from zero h = late-function
-late-from (suc zero) h = late-application
-late-from (suc (suc zero)) h = late-fix
-late-from (suc (suc (suc zero))) h = late-if
-late-from (suc (suc (suc (suc zero)))) h = late-operation
-late-from (suc (suc (suc (suc (suc j))))) h = let z : ⊥ = omega arith in absurd z
-
-late-kind : (k : ℕ) → 8 ≤ k → k < 13 → Late k
-late-kind k m l =
-    let e : 8 + (k - 8) ≡ k = omega arith in
-    rw e at (late-from (k - 8) (omega arith))
-
 abbrev lateAnswer : ℕ → ℕ → ℕ → ℕ → ℕ
 lateAnswer i e f g = givenBy (eqb (typeIn e) 1 && (eqb (typeIn f) 1 && eqb (typeIn g) 1)) 1 i
 
@@ -291,15 +262,23 @@ module _ {s : Script} {words ls : List ℕ} (lent : Lent s words ls) (Γ : Conte
       (given-answers s (ok lent i h) _ 1 i (small lent i h) (λ _. omega arith))
 
   late-row :
-      {k e f g : ℕ} (nd : Node) {ts : Terms} → Late k →
+      {k e f g : ℕ} (nd : Node) {ts : Terms} → KindOf k → 8 ≤ k →
       FieldsAnswer s (inside s Γ (getD rows k blankRow .uses) nd) (places (getD rows k blankRow .uses)) (e ∷ f ∷ g ∷ []) ts →
       typeBase ≤ e → typeBase ≤ f → typeBase ≤ g → AnswersFor s (lateAnswer i e f g) (check s Γ (build (getD rows k blankRow .step) i nd ts))
   unfolding rows build check arity count
-  late-row nd late-function st l m n = late-body st n
-  late-row nd late-application st l m n = late-list st l m n
-  late-row nd late-fix st l m n = late-list st l m n
-  late-row nd late-if st l m n = late-list st l m n
-  late-row nd late-operation st l m n = late-list st l m n
+  late-row nd constant-kind q st l m n = absurd (omega arith)
+  late-row nd variable-kind q st l m n = absurd (omega arith)
+  late-row nd lift-kind q st l m n = absurd (omega arith)
+  late-row nd function-kind q st l m n = absurd (omega arith)
+  late-row nd application-kind q st l m n = absurd (omega arith)
+  late-row nd fix-kind q st l m n = absurd (omega arith)
+  late-row nd conditional-kind q st l m n = absurd (omega arith)
+  late-row nd operation-kind q st l m n = absurd (omega arith)
+  late-row nd dynamic-function-kind q st l m n = late-body st n
+  late-row nd dynamic-application-kind q st l m n = late-list st l m n
+  late-row nd dynamic-fix-kind q st l m n = late-list st l m n
+  late-row nd dynamic-if-kind q st l m n = late-list st l m n
+  late-row nd dynamic-operation-kind q st l m n = late-list st l m n
 
 -- ---- what the rule of a node is told of the answers at its fields, and what it gives
 
@@ -326,7 +305,7 @@ module _ {ls stack : List ℕ} {d i k x p e f g j r : ℕ} (jk : j ≡ k) where
 module _ {ls stack : List ℕ} {d i k x p e f g n m : ℕ} (c : n ≡ lowest f g) (a : m ≡ lowest e n) where
   pub fault-ruled : m < typeBase → Ruled ls stack d i k x p e f g m
   fault-ruled l =
-      record { reply = λ words s Γ nd ts lent h b few vis. rw (a, c) (fault-first s Γ i nd e f g ts (rw (a, c) at l) k (vis .fields)) }
+      record { reply = λ words s Γ nd ts lent h b few vis. rw (a, c) (fault-first s Γ i nd e f g ts (rw (a, c) at l) (kind-of k (vis .known)) (vis .fields)) }
 
   module _ {t u v j r : ℕ} (jk : j ≡ k) (l : typeBase ≤ m) (te : t ≡ typeIn e) (uf : u ≡ typeIn f) (vg : v ≡ typeIn g) where
     pub lift-ruled : j ≡ 2 → r ≡ givenBy (eqb t 0) 1 i → Ruled ls stack d i k x p e f g r
@@ -398,4 +377,4 @@ module _ {ls stack : List ℕ} {d i k x p e f g n m : ℕ} (c : n ≡ lowest f g
     late-ruled q o y =
         let (le, lf, lg) = three-types c a l in
         rw (y, o, te, uf, vg)
-        (record { reply = λ words s Γ nd ts lent h b few vis. late-row lent Γ h nd (late-kind k (rw jk at q) (vis .known)) (vis .fields) le lf lg })
+        (record { reply = λ words s Γ nd ts lent h b few vis. late-row lent Γ h nd (kind-of k (vis .known)) (rw jk at q) (vis .fields) le lf lg })

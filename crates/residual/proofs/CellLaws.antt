@@ -20,10 +20,14 @@ use Rattle.lambdamix.specs.Arithmetic.{operators}
 use Rattle.lambdamix.specs.Term.{operatorOf}
 use Rattle.lambdamix.specs.Code.{Code, Codes, lit, ref, fn, form, nilC, consC, operatorNumber}
 use Rattle.lambdamix.proofs.Falling.{falling-step, below-at, below-out}
+use Rattle.lambdamix.proofs.KindCases.{constant-kind, variable-kind, lift-kind, function-kind, application-kind, fix-kind, conditional-kind}
+use Rattle.lambdamix.proofs.KindCases.{operation-kind, dynamic-function-kind, dynamic-application-kind, dynamic-fix-kind, dynamic-if-kind}
+use Rattle.lambdamix.proofs.KindCases.{dynamic-operation-kind}
 use Rattle.script.specs.Bytes.{signedBy, signed32}
 use Rattle.script.specs.declared.Row.{Row}
 use Rattle.script.specs.KindRows.{rowAt}
 use Rattle.script.specs.Words.{wordValue, wordKind, wordA, wordB, wordC}
+use Rattle.script.proofs.TableLaws.{AnyKind, in-table, past-table, any-kind, blank-row}
 use Rattle.residual.specs.Cells.{two, codeBy, codeStep, codeAt, codeBelow, pieceBy, rowPieces, pieces}
 use Rattle.residual.specs.Cells.{chargeBy, chargeLeaf, charge, chargeAll, chargeOne, roomOf, Charges, ChargesUnder, ChargesAll}
 use Rattle.residual.proofs.Rows.{by-piece, HasRow, ByRow, kind-row}
@@ -50,22 +54,22 @@ below-none xs p q h = below-out p (lit (pos 0)) (codeAt xs) q h
 abbrev pub Other : Type 0 → ℕ → Type 0
 Other N k = (((((N × (k ≡ 1 → ⊥)) × (k ≡ 8 → ⊥)) × (k ≡ 9 → ⊥)) × (k ≡ 10 → ⊥)) × (k ≡ 11 → ⊥)) × (k ≡ 12 → ⊥)
 
-other-kind : {N : Type 0} (self : ℕ → Code) (x k : ℕ) → Other N k → codeBy (stepOf k) self x ≡ lit (wordValue x)
+other-kind : {N : Type 0} (self : ℕ → Code) (x : ℕ) {k : ℕ} → AnyKind k → Other N k → codeBy (stepOf k) self x ≡ lit (wordValue x)
 unfolding stepOf rows codeBy
-other-kind self x zero r = refl
-other-kind self x (suc zero) r = absurd (r .0 .0 .0 .0 .0 .1 refl)
-other-kind self x (suc (suc zero)) r = refl
-other-kind self x (suc (suc (suc zero))) r = refl
-other-kind self x (suc (suc (suc (suc zero)))) r = refl
-other-kind self x (suc (suc (suc (suc (suc zero))))) r = refl
-other-kind self x (suc (suc (suc (suc (suc (suc zero)))))) r = refl
-other-kind self x (suc (suc (suc (suc (suc (suc (suc zero))))))) r = refl
-other-kind self x (suc (suc (suc (suc (suc (suc (suc (suc zero)))))))) r = absurd (r .0 .0 .0 .0 .1 refl)
-other-kind self x (suc (suc (suc (suc (suc (suc (suc (suc (suc zero))))))))) r = absurd (r .0 .0 .0 .1 refl)
-other-kind self x (suc (suc (suc (suc (suc (suc (suc (suc (suc (suc zero)))))))))) r = absurd (r .0 .0 .1 refl)
-other-kind self x (suc (suc (suc (suc (suc (suc (suc (suc (suc (suc (suc zero))))))))))) r = absurd (r .0 .1 refl)
-other-kind self x (suc (suc (suc (suc (suc (suc (suc (suc (suc (suc (suc (suc zero)))))))))))) r = absurd (r .1 refl)
-other-kind self x (suc (suc (suc (suc (suc (suc (suc (suc (suc (suc (suc (suc (suc k))))))))))))) r = refl
+other-kind self x (in-table constant-kind) r = refl
+other-kind self x (in-table variable-kind) r = absurd (r .0 .0 .0 .0 .0 .1 refl)
+other-kind self x (in-table lift-kind) r = refl
+other-kind self x (in-table function-kind) r = refl
+other-kind self x (in-table application-kind) r = refl
+other-kind self x (in-table fix-kind) r = refl
+other-kind self x (in-table conditional-kind) r = refl
+other-kind self x (in-table operation-kind) r = refl
+other-kind self x (in-table dynamic-function-kind) r = absurd (r .0 .0 .0 .0 .1 refl)
+other-kind self x (in-table dynamic-application-kind) r = absurd (r .0 .0 .0 .1 refl)
+other-kind self x (in-table dynamic-fix-kind) r = absurd (r .0 .0 .1 refl)
+other-kind self x (in-table dynamic-if-kind) r = absurd (r .0 .1 refl)
+other-kind self x (in-table dynamic-operation-kind) r = absurd (r .1 refl)
+other-kind self x (past-table h) r = rw (blank-row h)
 
 -- the cell x of kind k stands at p
 pub record Cell (xs : List ℕ) (p x k : ℕ) : Type 0 where
@@ -89,7 +93,7 @@ module _ {xs : List ℕ} {p x k : ℕ} (s : Cell xs p x k) where
   is-row h g e = rw (by-kind g, e) (kind-row h (codeBelow xs p) x)
 
   pub is-constant : {N : Type 0} → Other N k → Read xs p (lit (wordValue x))
-  is-constant r = record { code = by-kind refl ∙ other-kind (codeBelow xs p) x k r }
+  is-constant r = record { code = by-kind refl ∙ other-kind (codeBelow xs p) x (any-kind k) r }
 
 zero-value : wordValue 0 ≡ pos 0
 unfolding wordValue signed32 signedBy
@@ -214,23 +218,23 @@ all-flat : (c : Code) (cs : Codes) (o : Option ℕ) → chargeAll (consC c cs) o
 all-flat c cs o = charge-more c cs o 0 ∙ rw (none-flat c o) (all-none cs 0)
 
 -- any cell but a variable's has something under its node
-kind-flat : (k : ℕ) (self : ℕ → Code) (x : ℕ) (o : Option ℕ) → (k ≡ 1 → ⊥) → chargeAll (pieces (codeBy (stepOf k) self x)) o 0 ≡ none
+kind-flat :
+    {k : ℕ} → AnyKind k → (self : ℕ → Code) (x : ℕ) (o : Option ℕ) → (k ≡ 1 → ⊥) → chargeAll (pieces (codeBy (stepOf k) self x)) o 0 ≡ none
 unfolding stepOf rows codeBy
-kind-flat zero self x o f = all-flat (ref 0) nilC o
-kind-flat (suc zero) self x o f = absurd (f refl)
-kind-flat (suc (suc zero)) self x o f = all-flat (ref 0) nilC o
-kind-flat (suc (suc (suc zero))) self x o f = all-flat (ref 0) nilC o
-kind-flat (suc (suc (suc (suc zero)))) self x o f = all-flat (ref 0) nilC o
-kind-flat (suc (suc (suc (suc (suc zero))))) self x o f = all-flat (ref 0) nilC o
-kind-flat (suc (suc (suc (suc (suc (suc zero)))))) self x o f = all-flat (ref 0) nilC o
-kind-flat (suc (suc (suc (suc (suc (suc (suc zero))))))) self x o f = all-flat (ref 0) nilC o
-kind-flat (suc (suc (suc (suc (suc (suc (suc (suc zero)))))))) self x o f = all-flat (self (wordC x)) nilC o
-kind-flat (suc (suc (suc (suc (suc (suc (suc (suc (suc zero))))))))) self x o f = all-flat (self (wordA x)) (consC (self (wordB x)) nilC) o
-kind-flat (suc (suc (suc (suc (suc (suc (suc (suc (suc (suc zero)))))))))) self x o f = all-flat (self (wordA x)) nilC o
-kind-flat (suc (suc (suc (suc (suc (suc (suc (suc (suc (suc (suc zero))))))))))) self x o f =
-    all-flat (self (wordA x)) (two (self (wordB x)) (self (wordC x))) o
-kind-flat (suc (suc (suc (suc (suc (suc (suc (suc (suc (suc (suc (suc zero)))))))))))) self x o f = all-flat (self (wordA x)) (consC (self (wordB x)) nilC) o
-kind-flat (suc (suc (suc (suc (suc (suc (suc (suc (suc (suc (suc (suc (suc k))))))))))))) self x o f = all-flat (ref 0) nilC o
+kind-flat (in-table constant-kind) self x o f = all-flat (ref 0) nilC o
+kind-flat (in-table variable-kind) self x o f = absurd (f refl)
+kind-flat (in-table lift-kind) self x o f = all-flat (ref 0) nilC o
+kind-flat (in-table function-kind) self x o f = all-flat (ref 0) nilC o
+kind-flat (in-table application-kind) self x o f = all-flat (ref 0) nilC o
+kind-flat (in-table fix-kind) self x o f = all-flat (ref 0) nilC o
+kind-flat (in-table conditional-kind) self x o f = all-flat (ref 0) nilC o
+kind-flat (in-table operation-kind) self x o f = all-flat (ref 0) nilC o
+kind-flat (in-table dynamic-function-kind) self x o f = all-flat (self (wordC x)) nilC o
+kind-flat (in-table dynamic-application-kind) self x o f = all-flat (self (wordA x)) (consC (self (wordB x)) nilC) o
+kind-flat (in-table dynamic-fix-kind) self x o f = all-flat (self (wordA x)) nilC o
+kind-flat (in-table dynamic-if-kind) self x o f = all-flat (self (wordA x)) (two (self (wordB x)) (self (wordC x))) o
+kind-flat (in-table dynamic-operation-kind) self x o f = all-flat (self (wordA x)) (consC (self (wordB x)) nilC) o
+kind-flat (past-table h) self x o f = rw (blank-row h) (all-flat (ref 0) nilC o)
 
 -- a piece: its own node, and what is under it
 module _ {xs : List ℕ} {p q room levels : ℕ} where
@@ -255,7 +259,7 @@ module _ {xs : List ℕ} {p q room levels : ℕ} where
           left =
               sym
               (code-charged (codeBelow xs p q) room levels
-              ∙ rw (z, below-there xs p q l, by-kind s refl) (kind-flat k (codeBelow xs q) x (roomOf (room - 1)) g));
+              ∙ rw (z, below-there xs p q l, by-kind s refl) (kind-flat (any-kind k) (codeBelow xs q) x (roomOf (room - 1)) g));
         }
 
     pub charges-under : {r : ℕ} → (levels ≡ 0 → ⊥) → ChargesUnder xs q (room - 1) (levels - 1) r → Charges xs p q room levels r
@@ -310,8 +314,9 @@ all-more self u {q} {room = room} {levels} {cs = cs} e a s =
       left =
           s .left
           ∙ ap (λ (o : Option ℕ). chargeAll cs o (levels + 1)) (a .left)
-          ∙ by-piece u (self q) (λ f. chargeAll cs (chargeAll (f nilC) (roomOf room) (levels + 1)) (levels + 1) ≡ chargeAll (f cs) (roomOf room) (levels + 1)) refl
-          (sym (charge-more (self q) cs (roomOf room) (levels + 1)));
+          ∙ by-piece u (self q)
+          (λ f. chargeAll cs (chargeAll (f nilC) (roomOf room) (levels + 1)) (levels + 1) ≡ chargeAll (f cs) (roomOf room) (levels + 1))
+          refl (sym (charge-more (self q) cs (roomOf room) (levels + 1)));
     })
 
 -- ---- the code at a place, out of the most nodes and the greatest height
