@@ -21,6 +21,7 @@ use Rattle.script.specs.Tables.{Tables, rowType, rowInput, rowNode, tablesRefus
 use Rattle.script.specs.Words.{Packed}
 use Rattle.script.proofs.Rows.{type-count, input-count, node-count, type-row, input-row, node-row}
 use Rattle.script.proofs.RefusalLaws.{neither}
+use Rattle.script.proofs.ReplyLaws.{refusal-tells}
 use Rattle.annotation.specs.AnswerWords.{Passes, pick, typeBase, typeIn, meaning, AnswersFor, rootAnswer}
 use Rattle.annotation.specs.Checks.{scriptOf}
 use Rattle.annotation.specs.Walks.{Lists, Lent, Binds, stackPlaces, Bottom, Answers, Annotated}
@@ -94,5 +95,5 @@ at-root {n} {ps} {rs} {is} {words} {before} {i} {r} t b c e a q = record {
       let lent = tables-lent n x ok p (t (omega (arith, type-count (n .types) (n .inputs) (n .nodes) x, sd .within .types))) in
       let st = a .reply s _ lent (inputs-lent n x ok (b (omega (arith, input-count (n .types) (n .inputs) (n .nodes) x, sd .within .inputs)))) (omega arith)
       (omega (arith, input-count (n .types) (n .inputs) (n .nodes) x, sd .within .inputs, sd .within-height i (omega arith))) in
-      q ∙ root-answers s sd i r st ∙ rw f;
+      refusal-tells (q ∙ root-answers s sd i r st ∙ rw f);
 }

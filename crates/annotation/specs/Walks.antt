@@ -21,8 +21,8 @@ use Rattle.script.specs.declared.Counts.{Counts}
 use Rattle.script.specs.declared.Row.{Row}
 use Rattle.script.specs.declared.Verdict.{Verdict}
 use Rattle.script.specs.Refusals.{scriptRefusal}
+use Rattle.script.specs.Replies.{Tells}
 use Rattle.script.specs.Tables.{rowNode, tablesOf}
-use Rattle.script.specs.Verdicts.{refusalOf}
 use Rattle.script.specs.KindRows.{rowAt}
 use Rattle.script.specs.Words.{wordKind, Packed}
 use Rattle.walks.specs.Walks.{Kept}
@@ -162,4 +162,4 @@ pub record Annotated (n : Counts) (ps rs is words : List ℕ) (r : Verdict) : Ty
   pub reply :
       (ks xs ys zs : List ℕ) (vs : List ℤ) → Passes n (tablesOf ps rs is ks xs ys zs vs) →
       Packed (n .nodes) (rowNode (tablesOf ps rs is ks xs ys zs vs)) words →
-      refusalOf r ≡ annotationRefusal (scriptOf n (tablesOf ps rs is ks xs ys zs vs))
+      Tells (annotationRefusal (scriptOf n (tablesOf ps rs is ks xs ys zs vs))) r
