@@ -16,7 +16,7 @@ use Rattle.lambdamix.specs.Types.{Ty, typeOf, typeCount}
 use Rattle.lambdamix.specs.Typing.{Context, bind, typeAt, typeAtBy, inputType, inputTypeBy, contextFrom, inputContext}
 use Rattle.lambdamix.specs.Checker.{typed, faulty, own, provided, varRule}
 use Rattle.script.specs.Refusals.{inputFits}
-use Rattle.annotation.specs.AnswerWords.{pick, limit16, faultLimit, faultAnswer, typeBase, typeAnswer, typeIn, meaning, Stands, givenBy}
+use Rattle.annotation.specs.AnswerWords.{pick, limit16, faultLimit, faultAnswer, typeBase, typeAnswer, typeIn, meaning, AnswersFor, givenBy}
 use Rattle.annotation.specs.Walks.{Pair, Binds, no-binder, one-more, bound, Pushed}
 use Rattle.script.proofs.Sound.{Sound}
 use Rattle.walks.specs.Walks.{Kept}
@@ -26,28 +26,28 @@ use Rattle.annotation.proofs.TypeNumbers.{type-zero, type-one}
 -- ---- answers
 
 module _ (s : Script) (ok : Sound s) where
-  pub type-stands : (t : ℕ) → t < typeCount s → Stands s (typeAnswer t) (typed (typeOf s t))
+  pub type-answers : (t : ℕ) → t < typeCount s → AnswersFor s (typeAnswer t) (typed (typeOf s t))
   unfolding meaning typeCount maxTypes
-  type-stands t h =
+  type-answers t h =
       let few = ok .within .types in
       let e : typeIn (typeAnswer t) ≡ t = omega arith in
       record { said = rw (le-ltb (typeAnswer t) typeBase (omega arith), e); known = λ _. omega arith }
 
-pub fault-stands :
-    (s : Script) (k i : ℕ) → k < faultLimit → i < limit16 → Stands s (faultAnswer k i) (faulty (record { number = k; place = i }))
+pub fault-answers :
+    (s : Script) (k i : ℕ) → k < faultLimit → i < limit16 → AnswersFor s (faultAnswer k i) (faulty (record { number = k; place = i }))
 unfolding meaning
-fault-stands s k i h l =
+fault-answers s k i h l =
     let e : faultAnswer k i / faultLimit ≡ i = omega arith in
     let f : faultAnswer k i % faultLimit ≡ k = omega arith in
     record { said = rw (lt-ltb (faultAnswer k i) typeBase (omega arith), e, f); known = λ m. let z : ⊥ = omega arith in absurd z }
 
 -- the answer by a test stands for the rule by that test
-pub given-stands :
+pub given-answers :
     (s : Script) → Sound s → (b : Bool) (t i : ℕ) → i < limit16 → (b ≡ true → t < typeCount s) →
-    Stands s (givenBy b t i) (own i (provided b (typeOf s t)))
+    AnswersFor s (givenBy b t i) (own i (provided b (typeOf s t)))
 unfolding own provided
-given-stands s ok true t i l h = type-stands s ok t (h refl)
-given-stands s ok false t i l h = fault-stands s 9 i (omega arith) l
+given-answers s ok true t i l h = type-answers s ok t (h refl)
+given-answers s ok false t i l h = fault-answers s 9 i (omega arith) l
 
 -- ---- the stack
 
@@ -122,18 +122,18 @@ inputs-bound s ok binders p =
 
 -- ---- a name
 
-chosen-stands :
-    (s : Script) (b : Bool) (e f i : ℕ) (t : Ty) (u : Option Ty) → Stands s e (own i (varRule (some t))) →
-    Stands s f (own i (varRule u)) → Stands s (pick b e f) (own i (varRule (typeAtBy b t u)))
+chosen-answers :
+    (s : Script) (b : Bool) (e f i : ℕ) (t : Ty) (u : Option Ty) → AnswersFor s e (own i (varRule (some t))) →
+    AnswersFor s f (own i (varRule u)) → AnswersFor s (pick b e f) (own i (varRule (typeAtBy b t u)))
 unfolding typeAtBy
-chosen-stands s true e f i t u p q = p
-chosen-stands s false e f i t u p q = q
+chosen-answers s true e f i t u p q = p
+chosen-answers s false e f i t u p q = q
 
 -- Theorem: what is found for a name among the binders stands for the rule of a variable.
-pub bound-stands :
+pub bound-answers :
     (s : Script) → Sound s → (i y : ℕ) → i < limit16 → {binders : List ℕ} {d : ℕ} {Γ : Context} → Binds s binders d Γ →
-    Stands s (bound binders y i d) (own i (varRule (typeAt Γ y)))
+    AnswersFor s (bound binders y i d) (own i (varRule (typeAt Γ y)))
 unfolding bound typeAt own varRule
-bound-stands s ok i y l no-binder = fault-stands s 9 i (omega arith) l
-bound-stands s ok i y l (one-more b p h) =
-    rw (p .low, p .high) (chosen-stands s _ _ _ i _ _ (type-stands s ok _ h) (bound-stands s ok i y l b))
+bound-answers s ok i y l no-binder = fault-answers s 9 i (omega arith) l
+bound-answers s ok i y l (one-more b p h) =
+    rw (p .low, p .high) (chosen-answers s _ _ _ i _ _ (type-answers s ok _ h) (bound-answers s ok i y l b))

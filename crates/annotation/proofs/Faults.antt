@@ -11,20 +11,20 @@ use Rattle.lambdamix.specs.Script.{Script}
 use Rattle.lambdamix.specs.Types.{Ty, typeOf}
 use Rattle.lambdamix.specs.Checker.{Checked, typed, faulty, lowerBy, lower, both, Verdict, rule, gather}
 use Rattle.lambdamix.proofs.Tests.{holds-or-fails}
-use Rattle.annotation.specs.AnswerWords.{pick, faultLimit, refusalIn, typeBase, typeIn, meaning, Stands, lowest}
+use Rattle.annotation.specs.AnswerWords.{pick, faultLimit, refusalIn, typeBase, typeIn, meaning, AnswersFor, lowest}
 
 -- some answer that is no fault
 pub data Right {A : Type 0} : Checked A → Type 0 where
   right : (a : A) → Right (typed a)
 
 -- the answer m tells the fault of x, if there is one
-pub record Told {A : Type 0} (m : ℕ) (x : Checked A) : Type 0 where
+pub record TellsFault {A : Type 0} (m : ℕ) (x : Checked A) : Type 0 where
   pub fault : m < typeBase → x ≡ faulty (refusalIn m)
   pub no-fault : typeBase ≤ m → Right x
 
-pub told : {s : Script} {e : ℕ} {x : Checked Ty} → Stands s e x → Told e x
+pub answer-fault : {s : Script} {e : ℕ} {x : Checked Ty} → AnswersFor s e x → TellsFault e x
 unfolding meaning
-told {s} {e} {x} p =
+answer-fault {s} {e} {x} p =
     record {
       fault = λ h. sym (p .said) ∙ rw (lt-ltb e typeBase h);
       no-fault = λ h. rw (← p .said, le-ltb e typeBase h) (right (typeOf s _));
@@ -32,41 +32,41 @@ told {s} {e} {x} p =
 
 -- what an answer that is no fault stands for
 pub typed-answer :
-    {s : Script} {e : ℕ} {x : Checked Ty} → Stands s e x → typeBase ≤ e → x ≡ typed (typeOf s (typeIn e))
+    {s : Script} {e : ℕ} {x : Checked Ty} → AnswersFor s e x → typeBase ≤ e → x ≡ typed (typeOf s (typeIn e))
 unfolding meaning
 typed-answer {s} {e} p h = sym (p .said) ∙ rw (le-ltb e typeBase h)
 
-module _ {A : Type 0} {m : ℕ} {x : Checked A} (p : Told m x) where
-  pub told-alone : {B : Type 0} (b : B) → Told m (both x (typed b))
+module _ {A : Type 0} {m : ℕ} {x : Checked A} (p : TellsFault m x) where
+  pub fault-alone : {B : Type 0} (b : B) → TellsFault m (both x (typed b))
   unfolding both
-  told-alone b =
+  fault-alone b =
       record {
         fault = λ h. rw (p .fault h);
         no-fault = λ h. elim (p .no-fault h) [ right a ↦ right (a, b) ];
       }
 
-pub told-gather : {m : ℕ} {x : Checked (Ty × List Ty)} → Told m x → Told m (gather x)
+pub fault-gathered : {m : ℕ} {x : Checked (Ty × List Ty)} → TellsFault m x → TellsFault m (gather x)
 unfolding gather
-told-gather p =
+fault-gathered p =
     record {
       fault = λ h. rw (p .fault h);
       no-fault = λ h. elim (p .no-fault h) [ right a ↦ right _ ];
     }
 
 -- an answer that is no fault, behind another or before it, tells nothing
-module _ {A : Type 0} {m n : ℕ} {x : Checked A} (p : Told m x) (h : typeBase ≤ n) where
-  nothing-more : n / faultLimit ≤ m / faultLimit → Told n x
+module _ {A : Type 0} {m n : ℕ} {x : Checked A} (p : TellsFault m x) (h : typeBase ≤ n) where
+  nothing-more : n / faultLimit ≤ m / faultLimit → TellsFault n x
   nothing-more l = record { fault = λ k. let z : ⊥ = omega arith in absurd z; no-fault = λ _. p .no-fault (omega arith) }
 
-  pub told-first : Told (lowest m n) x
+  pub fault-then-type : TellsFault (lowest m n) x
   unfolding lowest
-  told-first =
+  fault-then-type =
       ⊎-elim (λ b. rw b p) (λ b. let l = leb-false (m / faultLimit) (n / faultLimit) b in rw b (nothing-more (omega arith)))
       (holds-or-fails (leb (m / faultLimit) (n / faultLimit)))
 
-  pub told-second : Told (lowest n m) x
+  pub type-then-fault : TellsFault (lowest n m) x
   unfolding lowest
-  told-second =
+  type-then-fault =
       ⊎-elim (λ b. rw b (nothing-more (leb-true (n / faultLimit) (m / faultLimit) b))) (λ b. rw b p)
       (holds-or-fails (leb (n / faultLimit) (m / faultLimit)))
 
@@ -81,8 +81,8 @@ one-of : (P : ℕ → Type 0) (b : Bool) (e f : ℕ) → P e → P f → P (pick
 one-of P true e f p q = p
 one-of P false e f p q = q
 
-module _ {A B : Type 0} {e f : ℕ} {x : Checked A} {y : Checked B} (p : Told e x) (q : Told f y) where
-  two-faults : e < typeBase → f < typeBase → Told (lowest e f) (both x y)
+module _ {A B : Type 0} {e f : ℕ} {x : Checked A} {y : Checked B} (p : TellsFault e x) (q : TellsFault f y) where
+  two-faults : e < typeBase → f < typeBase → TellsFault (lowest e f) (both x y)
   unfolding lowest both lower
   two-faults h k =
       let l : lowest e f < typeBase = one-of (λ m. m < typeBase) (leb (e / faultLimit) (f / faultLimit)) e f h k in
@@ -91,7 +91,7 @@ module _ {A B : Type 0} {e f : ℕ} {x : Checked A} {y : Checked B} (p : Told e 
         no-fault = λ m. let z : ⊥ = omega arith in absurd z;
       }
 
-  first-fault : e < typeBase → typeBase ≤ f → Told (lowest e f) (both x y)
+  first-fault : e < typeBase → typeBase ≤ f → TellsFault (lowest e f) (both x y)
   unfolding lowest both
   first-fault h k =
       elim (q .no-fault k) [
@@ -102,7 +102,7 @@ module _ {A B : Type 0} {e f : ℕ} {x : Checked A} {y : Checked B} (p : Told e 
         })
       ]
 
-  second-fault : typeBase ≤ e → f < typeBase → Told (lowest e f) (both x y)
+  second-fault : typeBase ≤ e → f < typeBase → TellsFault (lowest e f) (both x y)
   unfolding lowest both
   second-fault h k =
       elim (p .no-fault h) [
@@ -113,7 +113,7 @@ module _ {A B : Type 0} {e f : ℕ} {x : Checked A} {y : Checked B} (p : Told e 
         })
       ]
 
-  no-faults : typeBase ≤ e → typeBase ≤ f → Told (lowest e f) (both x y)
+  no-faults : typeBase ≤ e → typeBase ≤ f → TellsFault (lowest e f) (both x y)
   unfolding lowest both
   no-faults h k =
       let l : typeBase ≤ lowest e f = one-of (λ m. typeBase ≤ m) (leb (e / faultLimit) (f / faultLimit)) e f h k in
@@ -124,8 +124,8 @@ module _ {A B : Type 0} {e f : ℕ} {x : Checked A} {y : Checked B} (p : Told e 
       ]
 
   -- Theorem: the lowest of two answers tells the fault of both.
-  pub told-both : Told (lowest e f) (both x y)
-  told-both =
+  pub fault-of-both : TellsFault (lowest e f) (both x y)
+  fault-of-both =
       ⊎-elim
       (λ a. ⊎-elim (λ b. two-faults (ltb-true _ _ a) (ltb-true _ _ b)) (λ b. first-fault (ltb-true _ _ a) (ltb-false _ _ b)) (holds-or-fails (ltb f typeBase)))
       (λ a. ⊎-elim (λ b. second-fault (ltb-false _ _ a) (ltb-true _ _ b)) (λ b. no-faults (ltb-false _ _ a) (ltb-false _ _ b))
@@ -141,8 +141,8 @@ both-types e f h =
     (leb (e / faultLimit) (f / faultLimit)))
 
 -- a fault goes before the node's own rule
-pub told-rule :
-    (s : Script) (i : ℕ) {A : Type 0} (R : A → Verdict) {m : ℕ} {x : Checked A} → Told m x → m < typeBase → Stands s m (rule i R x)
+pub fault-before-rule :
+    (s : Script) (i : ℕ) {A : Type 0} (R : A → Verdict) {m : ℕ} {x : Checked A} → TellsFault m x → m < typeBase → AnswersFor s m (rule i R x)
 unfolding meaning rule
-told-rule s i R {m} p h =
+fault-before-rule s i R {m} p h =
     rw (p .fault h) (record { said = rw (lt-ltb m typeBase h); known = λ l. let z : ⊥ = omega arith in absurd z })

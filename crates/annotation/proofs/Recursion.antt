@@ -21,7 +21,7 @@ use Rattle.walks.proofs.TreeForms.{All, kept-fields}
 use Rattle.walks.proofs.Scopes.{kept-all}
 use Rattle.annotation.specs.AnswerWords.{pick, typeAnswer}
 use Rattle.annotation.specs.Walks.{Lent, Pair, bound, Pushed, Binds, Entered, entered, passed-over, parameterBy, Answers, ChildAnswers, FieldAnswers}
-use Rattle.annotation.specs.Walks.{typed-child, not-visited, RowOf, Stand, none-left, child-then, other-then, places, Ruled}
+use Rattle.annotation.specs.Walks.{typed-child, not-visited, RowOf, FieldsAnswer, none-left, child-then, other-then, places, Ruled}
 use Rattle.annotation.proofs.Trees.{Below, wordNode, kind-below, word-drawn, row-use}
 use Rattle.annotation.proofs.Contexts.{binds-kept, kept-then, binds-more}
 use Rattle.annotation.proofs.Rules.{constant-ruled, variable-ruled}
@@ -77,16 +77,16 @@ module _ {words ts : List ℕ} {d i : ℕ} where
   walk-kept (next-field (typed-child a) w) = kept-then (a .kept) (omega arith) (walk-kept w)
   walk-kept (next-field not-visited w) = walk-kept w
 
-  walk-stands :
+  walk-answers :
       {s : Script} {Γ : Context} → Lent s words ts → i < nodeCount s → {before after ms es : List ℕ} {bs : List Bool} →
       Walk words ts d i before after bs ms es → Binds s before d Γ → Below i (kept bs ms) →
-      d + heights (terms (tree s) (kept bs ms)) ≤ length before → Stand s Γ bs es (terms (tree s) (kept bs ms))
+      d + heights (terms (tree s) (kept bs ms)) ≤ length before → FieldsAnswer s Γ bs es (terms (tree s) (kept bs ms))
   unfolding kept keptIf terms heights All
-  walk-stands l h no-field b u r = none-left
-  walk-stands {s} {Γ} l h (next-field (typed-child a) w) b u r =
+  walk-answers l h no-field b u r = none-left
+  walk-answers {s} {Γ} l h (next-field (typed-child a) w) b u r =
       child-then (a .reply (u .0) .reply s Γ l b (omega (arith, u .0)) (omega arith))
-      (walk-stands l h w (binds-kept b (a .kept)) (u .1) (omega (arith, a .kept .same)))
-  walk-stands l h (next-field not-visited w) b u r = other-then (walk-stands l h w b u r)
+      (walk-answers l h w (binds-kept b (a .kept)) (u .1) (omega (arith, a .kept .same)))
+  walk-answers l h (next-field not-visited w) b u r = other-then (walk-answers l h w b u r)
 
 -- ---- a node over its fields
 
@@ -116,7 +116,7 @@ module _ {words ts before pushed after : List ℕ} {d inner i w p e f g : ℕ} {
         let high : height (tree s i) ≡ suc (heights (terms (tree s) (kept (places us) (wordA w ∷ wordB w ∷ wordC w ∷ [])))) = x .high ∙ rw (← us-row, c) in
         let k : p < typeCount s = rw (param, us-row) (x .known) in
         let (inner-binds, deep, same) = entered-binds enter b (omega arith) k in
-        let st = walk-stands l h walk inner-binds (rw (← us-row, c) at (x .falls)) (omega arith) in
+        let st = walk-answers l h walk inner-binds (rw (← us-row, c) at (x .falls)) (omega arith) in
         rw (x .term, ← us-row, c)
         (rule .reply words s Γ nd _ l h (binds-kept b stays) (omega (arith, stays .same))
         (record { known = kind-below l h o; name = refl; parameter = rw (← us-row) param; listed = k; fields = rw (← us-row, ← param) st }));

@@ -21,7 +21,8 @@ use Rattle.script.specs.Tables.{Tables, rowType, rowInput, rowNode, tablesRefus
 use Rattle.script.specs.Words.{Packed}
 use Rattle.script.proofs.Rows.{type-count, input-count, node-count, type-row, input-row, node-row}
 use Rattle.script.proofs.RefusalLaws.{neither}
-use Rattle.annotation.specs.AnswerWords.{Passes, pick, typeBase, typeIn, meaning, Stands, rootAnswer}
+use Rattle.script.proofs.ReplyLaws.{refusal-tells}
+use Rattle.annotation.specs.AnswerWords.{Passes, pick, typeBase, typeIn, meaning, AnswersFor, rootAnswer}
 use Rattle.annotation.specs.Checks.{scriptOf}
 use Rattle.annotation.specs.Walks.{Lists, Lent, Binds, stackPlaces, Bottom, Answers, Annotated}
 use Rattle.script.proofs.Sound.{Sound}
@@ -30,9 +31,9 @@ use Rattle.annotation.proofs.TypeNumbers.{View, static, dynamic, arrow,
 use Rattle.annotation.proofs.Contexts.{inputs-bound}
 
 -- the answer at the root, and what it stands for
-root-stands : (s : Script) → Sound s → (i r : ℕ) {x : Checked Ty} → Stands s r x → rootAnswer i r ≡ rootRule i x
+root-answers : (s : Script) → Sound s → (i r : ℕ) {x : Checked Ty} → AnswersFor s r x → rootAnswer i r ≡ rootRule i x
 unfolding rootAnswer rootRule meaning
-root-stands s ok i r p =
+root-answers s ok i r p =
     rw (← p .said)
     (⊎-elim (λ e. rw e) (λ e. let h = ltb-false _ _ e in rw e (by-view (view s ok (typeIn r) (p .known h))))
     (holds-or-fails (ltb r typeBase)))
@@ -93,6 +94,6 @@ at-root {n} {ps} {rs} {is} {words} {before} {i} {r} t b c e a q = record {
       let f : i ≡ nodeCount s - 1 = omega arith in
       let lent = tables-lent n x ok p (t (omega (arith, type-count (n .types) (n .inputs) (n .nodes) x, sd .within .types))) in
       let st = a .reply s _ lent (inputs-lent n x ok (b (omega (arith, input-count (n .types) (n .inputs) (n .nodes) x, sd .within .inputs)))) (omega arith)
-      (omega (arith, input-count (n .types) (n .inputs) (n .nodes) x, sd .within .inputs, sd .low i (omega arith))) in
-      q ∙ root-stands s sd i r st ∙ rw f;
+      (omega (arith, input-count (n .types) (n .inputs) (n .nodes) x, sd .within .inputs, sd .within-height i (omega arith))) in
+      refusal-tells (q ∙ root-answers s sd i r st ∙ rw f);
 }

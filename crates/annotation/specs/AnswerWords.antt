@@ -60,7 +60,7 @@ unfoldable pub meaning : Script → ℕ → Checked Ty
 meaning s r = pick (ltb r typeBase) (faulty (refusalIn r)) (typed (typeOf s (typeIn r)))
 
 -- a type's number is one of the script's
-pub record Stands (s : Script) (r : ℕ) (x : Checked Ty) : Type 0 where
+pub record AnswersFor (s : Script) (r : ℕ) (x : Checked Ty) : Type 0 where
   pub said : meaning s r ≡ x
   pub known : typeBase ≤ r → typeIn r < typeCount s
 

@@ -21,12 +21,12 @@ use Rattle.script.specs.declared.Counts.{Counts}
 use Rattle.script.specs.declared.Row.{Row}
 use Rattle.script.specs.declared.Verdict.{Verdict}
 use Rattle.script.specs.Refusals.{scriptRefusal}
+use Rattle.script.specs.Replies.{Tells}
 use Rattle.script.specs.Tables.{rowNode, tablesOf}
-use Rattle.script.specs.Verdicts.{refusalOf}
 use Rattle.script.specs.KindRows.{rowAt}
 use Rattle.script.specs.Words.{wordKind, Packed}
 use Rattle.walks.specs.Walks.{Kept}
-use Rattle.annotation.specs.AnswerWords.{Passes, pick, highHalf, lowHalf, typeAnswer, faultAnswer, Stands}
+use Rattle.annotation.specs.AnswerWords.{Passes, pick, highHalf, lowHalf, typeAnswer, faultAnswer, AnswersFor}
 use Rattle.annotation.specs.Checks.{scriptOf}
 
 -- two numbers of 16 bits in a word of 32
@@ -103,7 +103,7 @@ pub record Answers (words types before after : List ℕ) (d i r : ℕ) : Type 0 
   pub kept : Kept d before after
   pub reply :
       (s : Script) (Γ : Context) → Lent s words types → Binds s before d Γ → i < nodeCount s →
-      d + height (tree s i) ≤ length before → Stands s r (check s Γ (tree s i))
+      d + height (tree s i) ≤ length before → AnswersFor s r (check s Γ (tree s i))
 
 -- the same of a child m of node i, if its number is smaller
 pub record ChildAnswers (words types before after : List ℕ) (d i m r : ℕ) : Type 0 where
@@ -123,12 +123,12 @@ pub record RowOf (words : List ℕ) (i w : ℕ) (r : Row) : Type 0 where
   pub inner : 2 ≤ wordKind w
 
 -- the answers es at fields, of which some are children: those stand for what `check` gives of the terms ts
-pub data Stand (s : Script) (Γ : Context) : List Bool → List ℕ → Terms → Type 0 where
-  none-left : Stand s Γ [] [] nilT
+pub data FieldsAnswer (s : Script) (Γ : Context) : List Bool → List ℕ → Terms → Type 0 where
+  none-left : FieldsAnswer s Γ [] [] nilT
   child-then :
-      {bs : List Bool} {e : ℕ} {es : List ℕ} {t : Term} {ts : Terms} → Stands s e (check s Γ t) → Stand s Γ bs es ts →
-      Stand s Γ (true ∷ bs) (e ∷ es) (consT t ts)
-  other-then : {bs : List Bool} {es : List ℕ} {ts : Terms} → Stand s Γ bs es ts → Stand s Γ (false ∷ bs) (typeAnswer 1 ∷ es) ts
+      {bs : List Bool} {e : ℕ} {es : List ℕ} {t : Term} {ts : Terms} → AnswersFor s e (check s Γ t) → FieldsAnswer s Γ bs es ts →
+      FieldsAnswer s Γ (true ∷ bs) (e ∷ es) (consT t ts)
+  other-then : {bs : List Bool} {es : List ℕ} {ts : Terms} → FieldsAnswer s Γ bs es ts → FieldsAnswer s Γ (false ∷ bs) (typeAnswer 1 ∷ es) ts
 
 -- which fields of a row are children
 abbrev pub places : List Use → List Bool
@@ -149,17 +149,17 @@ pub record Visited (s : Script) (Γ : Context) (k x p : ℕ) (nd : Node) (e f g 
   pub parameter : p ≡ parameterType (getD rows k blankRow .uses) nd
   pub listed : p < typeCount s
   pub fields :
-      Stand s (inside s Γ (getD rows k blankRow .uses) nd) (places (getD rows k blankRow .uses)) (e ∷ f ∷ g ∷ []) ts
+      FieldsAnswer s (inside s Γ (getD rows k blankRow .uses) nd) (places (getD rows k blankRow .uses)) (e ∷ f ∷ g ∷ []) ts
 
 -- what the rule of node i promises, which has d binders around it
 pub record Ruled (types stack : List ℕ) (d i k x p e f g r : ℕ) : Type 0 where
   pub reply :
       (words : List ℕ) (s : Script) (Γ : Context) (nd : Node) (ts : Terms) → Lent s words types → i < nodeCount s → Binds s stack d Γ →
-      d ≤ length stack → Visited s Γ k x p nd e f g ts → Stands s r (check s Γ (build (getD rows k blankRow .step) i nd ts))
+      d ≤ length stack → Visited s Γ k x p nd e f g ts → AnswersFor s r (check s Γ (build (getD rows k blankRow .step) i nd ts))
 
 -- Refusals 9 to 11 of all tables with these type and input columns of which none of 1 to 8 holds and whose nodes the words hold.
 pub record Annotated (n : Counts) (ps rs is words : List ℕ) (r : Verdict) : Type 0 where
   pub reply :
       (ks xs ys zs : List ℕ) (vs : List ℤ) → Passes n (tablesOf ps rs is ks xs ys zs vs) →
       Packed (n .nodes) (rowNode (tablesOf ps rs is ks xs ys zs vs)) words →
-      refusalOf r ≡ annotationRefusal (scriptOf n (tablesOf ps rs is ks xs ys zs vs))
+      Tells (annotationRefusal (scriptOf n (tablesOf ps rs is ks xs ys zs vs))) r

@@ -6,11 +6,9 @@ use script::limits::FEW_NODES;
 use script::limits::MAX_NODES;
 use tables::refusal::tables_packed;
 ghost use Prim.Native.Nat.{min, _≤_};
-ghost use mathlib.Core.Path.{_≡_};
 ghost use lib.ListN.{length};
 ghost use Rattle.lambdamix.specs.Limits.{maxNodes};
 ghost use Rattle.script.specs.Replies.{Tells};
-ghost use Rattle.script.specs.Verdicts.{refusalOf};
 ghost use Rattle.script.specs.Tables.{tablesOf};
 ghost use Rattle.annotation.specs.Checks.{checkRefusal};
 
@@ -28,7 +26,7 @@ fn check_in(
     words: &mut [u64],
 ) -> Verdict
     requires { ⌜ min (n .nodes) maxNodes ≤ length (now words) ⌝ }
-    ensures { λ r. ⌜ refusalOf r ≡ checkRefusal (n .types) (n .inputs) (n .nodes) (tablesOf (now (parameters .entry)) (now (results .entry)) (now (inputs .entry)) (now (kinds .entry)) (now (a .entry)) (now (b .entry)) (now (c .entry)) (now (values .entry))) ⌝ }
+    ensures { λ r. ⌜ Tells (checkRefusal (n .types) (n .inputs) (n .nodes) (tablesOf (now (parameters .entry)) (now (results .entry)) (now (inputs .entry)) (now (kinds .entry)) (now (a .entry)) (now (b .entry)) (now (c .entry)) (now (values .entry)))) r ⌝ }
 {
     match tables_packed(
         n,

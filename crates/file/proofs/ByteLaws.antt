@@ -11,7 +11,7 @@ use lib.Seq.{getD-append-add, ext-getD}
 use lib.Dec.{lit<}
 use Rattle.lambdamix.specs.Arithmetic.{Fits32}
 use Rattle.script.proofs.WordLaws.{bits-small, signed-bits, signed-both}
-use Rattle.script.specs.Bytes.{byteAt, word16, word32, signed32, bits32, bytes16, bytes32}
+use Rattle.script.specs.Bytes.{byteAt, number16, number32, signed32, bits32, bytes16, bytes32}
 use Rattle.file.specs.Encodable.{AllBytes}
 
 -- the bytes ys stand in bs from place o on
@@ -77,31 +77,31 @@ joined : (v : ℕ) → v < 65536 → v % 256 + 256 * (v / 256 % 256) ≡ v
 joined v h = omega arith
 
 -- read as written
-pub word16-at : {bs : List ℕ} {o v : ℕ} → Stands bs o (bytes16 v) → v < 65536 → word16 bs o ≡ v
-unfolding word16 bytes16
-word16-at {bs} {o} {v} s h =
+pub number16-at : {bs : List ℕ} {o v : ℕ} → Stands bs o (bytes16 v) → v < 65536 → number16 bs o ≡ v
+unfolding number16 bytes16
+number16-at {bs} {o} {v} s h =
     let p : byteAt bs o ≡ v % 256 = ap (byteAt bs) (omega arith) ∙ s .at 0 (lit< tt) in
     let q : byteAt bs (o + 1) ≡ v / 256 % 256 = s .at 1 (lit< tt) in
     omega (arith, joined v h)
 
 -- written as read
-pub stands16 : {bs : List ℕ} → AllBytes bs → (o : ℕ) → Stands bs o (bytes16 (word16 bs o))
-unfolding word16 bytes16
+pub stands16 : {bs : List ℕ} → AllBytes bs → (o : ℕ) → Stands bs o (bytes16 (number16 bs o))
+unfolding number16 bytes16
 stands16 {bs} all o =
     let p = all .below o in
     let q = all .below (o + 1) in
     stands-cons (omega arith) (stands-cons (omega arith) stands-nil)
 
-pub word16-small : {bs : List ℕ} → AllBytes bs → (o : ℕ) → word16 bs o < 65536
-unfolding word16
-word16-small all o = omega (arith, all .below o, all .below (o + 1))
+pub number16-small : {bs : List ℕ} → AllBytes bs → (o : ℕ) → number16 bs o < 65536
+unfolding number16
+number16-small all o = omega (arith, all .below o, all .below (o + 1))
 
 -- ---- signed numbers of 32 bits
 
 -- read as written
-pub word32-at : {bs : List ℕ} {o v : ℕ} → Stands bs o (bytes32 v) → v < 4294967296 → word32 bs o ≡ v
-unfolding word32 word16 bytes32
-word32-at {bs} {o} {v} s h =
+pub number32-at : {bs : List ℕ} {o v : ℕ} → Stands bs o (bytes32 v) → v < 4294967296 → number32 bs o ≡ v
+unfolding number32 number16 bytes32
+number32-at {bs} {o} {v} s h =
     let p : byteAt bs o ≡ v % 256 = ap (byteAt bs) (omega arith) ∙ s .at 0 (lit< tt) in
     let q : byteAt bs (o + 1) ≡ v / 256 % 256 = s .at 1 (lit< tt) in
     let r : byteAt bs (o + 2) ≡ v / 65536 % 256 = s .at 2 (lit< tt) in
@@ -112,8 +112,8 @@ word32-at {bs} {o} {v} s h =
     omega arith
 
 -- written as read
-stands32 : {bs : List ℕ} → AllBytes bs → (o : ℕ) → Stands bs o (bytes32 (word32 bs o))
-unfolding word32 word16 bytes32
+stands32 : {bs : List ℕ} → AllBytes bs → (o : ℕ) → Stands bs o (bytes32 (number32 bs o))
+unfolding number32 number16 bytes32
 stands32 {bs} all o =
     let p = all .below o in
     let q = all .below (o + 1) in
@@ -124,16 +124,16 @@ stands32 {bs} all o =
     stands-cons (omega arith)
     (stands-cons (omega arith) (stands-cons (omega arith) (stands-cons (omega arith) stands-nil)))
 
-word32-small : {bs : List ℕ} → AllBytes bs → (o : ℕ) → word32 bs o < 4294967296
-unfolding word32
-word32-small all o = omega (arith, word16-small all o, word16-small all (o + 2))
+number32-small : {bs : List ℕ} → AllBytes bs → (o : ℕ) → number32 bs o < 4294967296
+unfolding number32
+number32-small all o = omega (arith, number16-small all o, number16-small all (o + 2))
 
 -- the signed value at a place: read as written, written as read, and within the range
-pub value-at : {bs : List ℕ} {o : ℕ} {z : ℤ} → Stands bs o (bytes32 (bits32 z)) → Fits32 z → signed32 (word32 bs o) ≡ z
-value-at {bs} {o} {z} s h = ap signed32 (word32-at s (bits-small z h)) ∙ signed-bits z h
+pub value-at : {bs : List ℕ} {o : ℕ} {z : ℤ} → Stands bs o (bytes32 (bits32 z)) → Fits32 z → signed32 (number32 bs o) ≡ z
+value-at {bs} {o} {z} s h = ap signed32 (number32-at s (bits-small z h)) ∙ signed-bits z h
 
-pub value-stands : {bs : List ℕ} → AllBytes bs → (o : ℕ) → Stands bs o (bytes32 (bits32 (signed32 (word32 bs o))))
-value-stands {bs} all o = rw (signed-both (word32 bs o) (word32-small all o) .0) (stands32 all o)
+pub value-stands : {bs : List ℕ} → AllBytes bs → (o : ℕ) → Stands bs o (bytes32 (bits32 (signed32 (number32 bs o))))
+value-stands {bs} all o = rw (signed-both (number32 bs o) (number32-small all o) .0) (stands32 all o)
 
-pub value-small : {bs : List ℕ} → AllBytes bs → (o : ℕ) → Fits32 (signed32 (word32 bs o))
-value-small {bs} all o = signed-both (word32 bs o) (word32-small all o) .1
+pub value-small : {bs : List ℕ} → AllBytes bs → (o : ℕ) → Fits32 (signed32 (number32 bs o))
+value-small {bs} all o = signed-both (number32 bs o) (number32-small all o) .1

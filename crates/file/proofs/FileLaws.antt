@@ -20,7 +20,7 @@ use Rattle.script.specs.File.{headInputs, headNodes, scriptIn}
 use Rattle.script.specs.Refusals.{refusedRecord, countsRight, contentRefusal, scriptRefusal, headMarked, markRefusal, earlier, bodyRefusal, fileRefusal}
 use Rattle.script.specs.Refusals.{headRefusal}
 use Rattle.file.specs.Encodable.{AllBytes, Encodable}
-use Rattle.file.proofs.ByteLaws.{Stands, stands-left, stands-right, stands-both, stands-self, stands-whole, word16-at, stands16, word16-small}
+use Rattle.file.proofs.ByteLaws.{Stands, stands-left, stands-right, stands-both, stands-self, stands-whole, number16-at, stands16, number16-small}
 use Rattle.script.proofs.RefusalLaws.{neither, no-earlier, not-refused, pass-over, no-record, or-none}
 use Rattle.script.proofs.Numbered.{length-numbered}
 use Rattle.file.proofs.RecordLaws.{readFrom, wrongMark, records-length, records-read, records-marked, records-written, records-fit}
@@ -81,16 +81,16 @@ module _ (s : Script) (fit : Encodable s) where
 
   types-count : headTypes (fileBytes s) ≡ length (s .types)
   unfolding headTypes
-  types-count = word16-at (stands-left (bytes16 (length (s .types))) _ from-counts) (fit .typeCount)
+  types-count = number16-at (stands-left (bytes16 (length (s .types))) _ from-counts) (fit .typeCount)
 
   inputs-count : headInputs (fileBytes s) ≡ length (s .inputs)
   unfolding headInputs
-  inputs-count = word16-at (stands-left (bytes16 (length (s .inputs))) _ from-input-count) (fit .inputCount)
+  inputs-count = number16-at (stands-left (bytes16 (length (s .inputs))) _ from-input-count) (fit .inputCount)
 
   nodes-count : headNodes (fileBytes s) ≡ length (s .nodes)
   unfolding headNodes bytes16
   nodes-count =
-      word16-at (stands-right (bytes16 (length (s .inputs))) (bytes16 (length (s .nodes))) from-input-count 6 refl) (fit .nodeCount)
+      number16-at (stands-right (bytes16 (length (s .inputs))) (bytes16 (length (s .nodes))) from-input-count 6 refl) (fit .nodeCount)
 
   -- Reading what was written gives the same script.
   pub read-written : scriptIn (fileBytes s) ≡ s
@@ -219,9 +219,9 @@ pub read-fits : (bs : List ℕ) → AllBytes bs → Encodable (scriptIn bs)
 unfolding scriptIn typeOffset inputOffset nodeOffset nodeAt headTypes headInputs headNodes
 read-fits bs all =
     record {
-      typeCount = rw length-numbered (word16-small all 2);
-      inputCount = rw length-numbered (word16-small all 4);
-      nodeCount = rw length-numbered (word16-small all 6);
+      typeCount = rw length-numbered (number16-small all 2);
+      inputCount = rw length-numbered (number16-small all 4);
+      nodeCount = rw length-numbered (number16-small all 6);
       types = records-fit typeLayout 8 (headTypes bs) all;
       inputs = records-fit inputLayout (8 + 6 * headTypes bs) (headInputs bs) all;
       nodes = records-fit nodeLayout (8 + 6 * headTypes bs + 4 * headInputs bs) (headNodes bs) all;

@@ -12,7 +12,7 @@ use Rattle.lambdamix.specs.Specializing.{Answer, finished, halted, specialized}
 use Rattle.lambdamix.specs.Trials.{Trial, trials, Row, inputA}
 use Rattle.lambdamix.proofs.Computing.{computing}
 use Rattle.lambdamix.proofs.Trials.{each-row}
-use Rattle.script.specs.Bytes.{byteAt, word16, word32, signedBy, signed32, bits32, bytes16, bytes32}
+use Rattle.script.specs.Bytes.{byteAt, number16, number32, signedBy, signed32, bits32, bytes16, bytes32}
 use Rattle.script.specs.File.{headBytes, typeBytes, inputBytes, nodeBytes, records, fileBytes, typeOffset, inputOffset, nodeOffset, fileLength, headTypes}
 use Rattle.script.specs.File.{headInputs, headNodes, numbered, typeFrom, inputFrom, nodeFrom, scriptIn}
 use Rattle.script.specs.Refusals.{refusedRecord, countsRight, samePair, otherPair, isNone, typeFits, inputFits, fieldRight, fieldsRight, nodeFits, contentOf}
@@ -20,7 +20,7 @@ use Rattle.script.specs.Refusals.{contentRefusal, scriptRefusal, marked, markRe
 
 -- one name that opens the definitions of files
 unfoldable pub reading : Unit {0}
-unfolding byteAt word16 word32 signedBy signed32 bits32 bytes16 bytes32 headBytes typeBytes inputBytes nodeBytes records fileBytes
+unfolding byteAt number16 number32 signedBy signed32 bits32 bytes16 bytes32 headBytes typeBytes inputBytes nodeBytes records fileBytes
     typeOffset inputOffset nodeOffset fileLength headTypes headInputs headNodes numbered typeFrom inputFrom nodeFrom scriptIn refusedUnless
     refusedRecord countsRight samePair otherPair isNone typeFits inputFits fieldRight fieldsRight nodeFits contentOf contentRefusal
     scriptRefusal marked markRefusal earlierBy earlier bodyRefusal headRefusal fileRefusal

@@ -12,12 +12,13 @@ use Rattle.lambdamix.specs.Script.{FunctionType, Node, blankNode}
 use Rattle.lambdamix.specs.Text.{ascii}
 use Rattle.lambdamix.specs.Types.{blankType}
 use Rattle.lambdamix.proofs.Tests.{and-intro, and-both}
-use Rattle.script.specs.Bytes.{byteAt, word16, word32, signed32, bits32, bytes16, bytes32}
+use Rattle.script.specs.Bytes.{byteAt, number16, number32, signed32, bits32, bytes16, bytes32}
 use Rattle.script.specs.File.{typeBytes, typeFrom, inputBytes, inputFrom, nodeBytes, nodeFrom}
 use Rattle.script.specs.Refusals.{marked}
 use Rattle.script.specs.Widths.{EncodableType, EncodableNode}
 use Rattle.file.specs.Encodable.{AllBytes}
-use Rattle.file.proofs.ByteLaws.{Stands, stands-left, stands-right, stands-both, stands-nil, stands-cons, word16-at, stands16, word16-small, value-at}
+use Rattle.file.proofs.ByteLaws.{Stands, stands-left, stands-right, stands-both, stands-nil, stands-cons, stands16}
+use Rattle.file.proofs.ByteLaws.{number16-at, number16-small, value-at}
 use Rattle.file.proofs.ByteLaws.{value-stands, value-small}
 use Rattle.file.proofs.RecordLaws.{Layout}
 
@@ -52,23 +53,23 @@ type-reads {bs} {o} t f s = λ i. record { parameter = p i; result = r i }
     parts : Stands bs (o + 2) (bytes16 (t .parameter) ++ bytes16 (t .result))
     parts = stands-right (ascii "TY") _ s (o + 2) (omega arith)
 
-    p : word16 bs (o + 2) ≡ t .parameter
-    p = word16-at (stands-left (bytes16 (t .parameter)) (bytes16 (t .result)) parts) (f .parameter)
+    p : number16 bs (o + 2) ≡ t .parameter
+    p = number16-at (stands-left (bytes16 (t .parameter)) (bytes16 (t .result)) parts) (f .parameter)
 
-    r : word16 bs (o + 4) ≡ t .result
-    r = word16-at (stands-right (bytes16 (t .parameter)) (bytes16 (t .result)) parts (o + 4) (omega arith)) (f .result)
+    r : number16 bs (o + 4) ≡ t .result
+    r = number16-at (stands-right (bytes16 (t .parameter)) (bytes16 (t .result)) parts (o + 4) (omega arith)) (f .result)
 
 pub type-writes :
     {bs : List ℕ} (o : ℕ) → AllBytes bs → marked 84 89 bs o ≡ true → Stands bs o (typeBytes (typeFrom bs o))
 unfolding typeBytes ascii bytes16 typeFrom
 type-writes {bs} o all e =
     stands-both (ascii "TY") _ (mark-stands 84 89 e) (o + 2) (omega arith)
-    (stands-both (bytes16 (word16 bs (o + 2))) (bytes16 (word16 bs (o + 4))) (stands16 all (o + 2)) (o + 4) (omega arith)
+    (stands-both (bytes16 (number16 bs (o + 2))) (bytes16 (number16 bs (o + 4))) (stands16 all (o + 2)) (o + 4) (omega arith)
     (stands16 all (o + 4)))
 
 pub type-fits : {bs : List ℕ} (o : ℕ) → AllBytes bs → EncodableType (typeFrom bs o)
 unfolding typeFrom
-type-fits o all = record { parameter = word16-small all (o + 2); result = word16-small all (o + 4) }
+type-fits o all = record { parameter = number16-small all (o + 2); result = number16-small all (o + 4) }
 
 abbrev pub typeLayout : Layout FunctionType
 typeLayout =
@@ -99,7 +100,7 @@ input-begins t s = begins-marked s
 
 pub input-reads : {bs : List ℕ} {o : ℕ} (t : ℕ) → t < 65536 → Stands bs o (inputBytes t) → inputFrom bs o ≡ t
 unfolding inputBytes ascii inputFrom
-input-reads {bs} {o} t f s = word16-at (stands-right (ascii "IN") (bytes16 t) s (o + 2) (omega arith)) f
+input-reads {bs} {o} t f s = number16-at (stands-right (ascii "IN") (bytes16 t) s (o + 2) (omega arith)) f
 
 pub input-writes :
     {bs : List ℕ} (o : ℕ) → AllBytes bs → marked 73 78 bs o ≡ true → Stands bs o (inputBytes (inputFrom bs o))
@@ -108,7 +109,7 @@ input-writes o all e = stands-both (ascii "IN") _ (mark-stands 73 78 e) (o + 2) 
 
 pub input-fits : {bs : List ℕ} (o : ℕ) → AllBytes bs → inputFrom bs o < 65536
 unfolding inputFrom
-input-fits o all = word16-small all (o + 2)
+input-fits o all = number16-small all (o + 2)
 
 abbrev pub inputLayout : Layout ℕ
 inputLayout =
@@ -153,16 +154,16 @@ node-reads {bs} {o} d f s = λ i. record { kind = k i; a = pa i; b = pb i; c = p
     from-c : Stands bs (o + 7) (bytes16 (d .c) ++ bytes32 (bits32 (d .value)))
     from-c = stands-right (bytes16 (d .b)) _ from-b (o + 7) (omega arith)
 
-    pa : word16 bs (o + 3) ≡ d .a
-    pa = word16-at (stands-left (bytes16 (d .a)) _ from-a) (f .a)
+    pa : number16 bs (o + 3) ≡ d .a
+    pa = number16-at (stands-left (bytes16 (d .a)) _ from-a) (f .a)
 
-    pb : word16 bs (o + 5) ≡ d .b
-    pb = word16-at (stands-left (bytes16 (d .b)) _ from-b) (f .b)
+    pb : number16 bs (o + 5) ≡ d .b
+    pb = number16-at (stands-left (bytes16 (d .b)) _ from-b) (f .b)
 
-    pc : word16 bs (o + 7) ≡ d .c
-    pc = word16-at (stands-left (bytes16 (d .c)) _ from-c) (f .c)
+    pc : number16 bs (o + 7) ≡ d .c
+    pc = number16-at (stands-left (bytes16 (d .c)) _ from-c) (f .c)
 
-    pv : signed32 (word32 bs (o + 9)) ≡ d .value
+    pv : signed32 (number32 bs (o + 9)) ≡ d .value
     pv = value-at (stands-right (bytes16 (d .c)) _ from-c (o + 9) (omega arith)) (f .value)
 
 pub node-writes :
@@ -171,18 +172,18 @@ unfolding nodeBytes ascii bytes16 nodeFrom
 node-writes {bs} o all e =
     stands-both (ascii "ND") _ (mark-stands 78 68 e) (o + 2) (omega arith)
     (stands-both (byteAt bs (o + 2) ∷ []) _ (stands-cons refl stands-nil) (o + 3) (omega arith)
-    (stands-both (bytes16 (word16 bs (o + 3))) _ (stands16 all (o + 3)) (o + 5) (omega arith)
-    (stands-both (bytes16 (word16 bs (o + 5))) _ (stands16 all (o + 5)) (o + 7) (omega arith)
-    (stands-both (bytes16 (word16 bs (o + 7))) _ (stands16 all (o + 7)) (o + 9) (omega arith) (value-stands all (o + 9))))))
+    (stands-both (bytes16 (number16 bs (o + 3))) _ (stands16 all (o + 3)) (o + 5) (omega arith)
+    (stands-both (bytes16 (number16 bs (o + 5))) _ (stands16 all (o + 5)) (o + 7) (omega arith)
+    (stands-both (bytes16 (number16 bs (o + 7))) _ (stands16 all (o + 7)) (o + 9) (omega arith) (value-stands all (o + 9))))))
 
 pub node-fits : {bs : List ℕ} (o : ℕ) → AllBytes bs → EncodableNode (nodeFrom bs o)
 unfolding nodeFrom
 node-fits o all =
     record {
       kind = all .below (o + 2);
-      a = word16-small all (o + 3);
-      b = word16-small all (o + 5);
-      c = word16-small all (o + 7);
+      a = number16-small all (o + 3);
+      b = number16-small all (o + 5);
+      c = number16-small all (o + 7);
       value = value-small all (o + 9);
     }
 

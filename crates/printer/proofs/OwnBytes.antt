@@ -1,19 +1,22 @@
 -- How many bytes a node's text has beside those of its children: at most 13, that of a function. Assumes nothing.
-use Prim.Native.Nat.{ℕ, zero, suc, _+_, _≤_, _<_}
+use Prim.Native.Nat.{ℕ, suc, _+_, _≤_, _<_}
 use mathlib.Core.Path.{_≡_, ap}
 use mathlib.Core.Bool.{Bool, true, false}
 use mathlib.Core.List.{List, [], _∷_, _++_}
 use native.Mathlib.Omega.{arith}
 use lib.IntN.{ℤ, pos, negsuc}
-use lib.ListN.{length, length-append}
+use lib.ListN.{length, getD, length-append}
 use lib.Dec.{ltb}
 use Rattle.lambdamix.specs.Arithmetic.{Fits32}
-use Rattle.lambdamix.specs.Script.{Node, rows, rowOf, fields, ifChild, childFields, children}
+use Rattle.lambdamix.specs.declared.Use.the-variants.{Nothing}
+use Rattle.lambdamix.specs.Script.{Node, Row, rows, rowOf, blankRow, stepOf, fields, ifChild, childFields, children}
 use Rattle.lambdamix.specs.Text.{ascii, decimal}
 use Rattle.lambdamix.specs.Term.{operatorOf}
 use Rattle.lambdamix.specs.Listing.{nameBy, nameText, operatorText, formerText}
-use Rattle.script.specs.Kinds.{usesTable, useOf}
-use Rattle.printer.specs.Nodes.{words, wordOf, wordText, framed, fieldText, nodeText}
+use Rattle.script.specs.Kinds.{useOf}
+use Rattle.script.proofs.TableLaws.{row-uses}
+use Rattle.walks.proofs.TreeForms.{All, at-all}
+use Rattle.printer.specs.Nodes.{stepWord, wordOf, wordText, framed, fieldText, nodeText}
 use Rattle.text.proofs.Digits.{digits-within}
 use Rattle.printer.proofs.WordLaws.{sign-text}
 
@@ -38,55 +41,37 @@ decimal-bytes (negsuc n) h = omega (arith, digits-within 9 (suc n) (omega arith)
 sign-bytes : (c : ℕ) → length (operatorText (operatorOf c)) ≡ 1
 sign-bytes c = ap length (sign-text c)
 
-lengths :
-    (p w u v t q : List ℕ) →
-    length (p ++ w ++ u ++ v ++ t ++ q) ≡ length p + length w + length u + length v + length t + length q
-lengths p w u v t q = simp length-append
+module _ (n : ℕ) (self : ℕ → List ℕ) (nd : Node) where
+  -- the text of the node by a row; its own text is that by the row of its kind
+  abbrev rowText : Row → List ℕ
+  rowText r =
+      let w = stepWord (r .step) in
+      framed w 40
+      ++ wordText w (nd .c) (nd .value)
+      ++ fieldText n self w (getD (r .uses) 0 Nothing) (nd .a)
+      ++ fieldText n self w (getD (r .uses) 1 Nothing) (nd .b)
+      ++ fieldText n self w (getD (r .uses) 2 Nothing) (nd .c)
+      ++ framed w 41
 
-module _ (n : ℕ) (self : ℕ → List ℕ) (a b c : ℕ) (z : ℤ) where
-  abbrev node : ℕ → Node
-  node k = record { kind = k; a = a; b = b; c = c; value = z }
+  own-row : nodeText n self nd ≡ rowText (rowOf nd)
+  unfolding nodeText wordOf stepOf rowOf useOf
+  own-row = rw (← row-uses nd)
 
-  abbrev part : ℕ → ℕ → ℕ → List ℕ
-  part k j f = fieldText n self (wordOf k) (useOf k j) f
+  abbrev RowBytes : Row → Type 0
+  RowBytes r = length (rowText r) ≤ 13 + total (λ m. length (self m)) (childFields (r .uses) (fields nd))
 
-  pieces :
-      (k : ℕ) →
-      length (nodeText n self (node k))
-      ≡ length (framed (wordOf k) 40) + length (wordText (wordOf k) c z) + length (part k 0 a) + length (part k 1 b) + length (part k 2 c)
-      + length (framed (wordOf k) 41)
-  unfolding nodeText
-  pieces k =
-      lengths (framed (wordOf k) 40) (wordText (wordOf k) c z) (part k 0 a) (part k 1 b) (part k 2 c) (framed (wordOf k) 41)
-
-  -- For each row of the tables, and past them.
+  -- each row of the table, and the blank one past it
   row-bytes :
-      (k : ℕ) → length (nameText n a) ≤ 6 → length (decimal z) ≤ 11 → length (operatorText (operatorOf c)) ≡ 1 →
-      length (nodeText n self (node k)) ≤ 13 + total (λ m. length (self m)) (children (node k))
-  unfolding total wordOf words useOf usesTable rowOf rows fields children childFields ifChild wordText fieldText formerText ascii
-  row-bytes zero x y o = omega (arith, pieces 0)
-  row-bytes (suc zero) x y o = omega (arith, pieces 1)
-  row-bytes (suc (suc zero)) x y o = omega (arith, pieces 2)
-  row-bytes (suc (suc (suc zero))) x y o = omega (arith, pieces 3)
-  row-bytes (suc (suc (suc (suc zero)))) x y o = omega (arith, pieces 4)
-  row-bytes (suc (suc (suc (suc (suc zero))))) x y o = omega (arith, pieces 5)
-  row-bytes (suc (suc (suc (suc (suc (suc zero)))))) x y o = omega (arith, pieces 6)
-  row-bytes (suc (suc (suc (suc (suc (suc (suc zero))))))) x y o = omega (arith, pieces 7)
-  row-bytes (suc (suc (suc (suc (suc (suc (suc (suc zero)))))))) x y o = omega (arith, pieces 8)
-  row-bytes (suc (suc (suc (suc (suc (suc (suc (suc (suc zero))))))))) x y o = omega (arith, pieces 9)
-  row-bytes (suc (suc (suc (suc (suc (suc (suc (suc (suc (suc zero)))))))))) x y o = omega (arith, pieces 10)
-  row-bytes (suc (suc (suc (suc (suc (suc (suc (suc (suc (suc (suc zero))))))))))) x y o = omega (arith, pieces 11)
-  row-bytes (suc (suc (suc (suc (suc (suc (suc (suc (suc (suc (suc (suc zero)))))))))))) x y o = omega (arith, pieces 12)
-  row-bytes (suc (suc (suc (suc (suc (suc (suc (suc (suc (suc (suc (suc (suc k))))))))))))) x y o = omega (
-    arith,
-    pieces (suc (suc (suc
-        (suc (suc (suc (suc (suc (suc (suc (suc (suc (suc k))))))))))))),
-  )
+      length (nameText n (nd .a)) ≤ 6 → length (decimal (nd .value)) ≤ 11 → length (operatorText (operatorOf (nd .c))) ≡ 1 →
+      All RowBytes (blankRow ∷ rows)
+  unfolding All rows total stepWord fields childFields ifChild wordText fieldText formerText ascii
+  row-bytes x y o = simp length-append (omega (arith, x, y, o))
 
 -- The bytes of a node's text, given those of its children's.
 pub own-bytes :
     (n : ℕ) (self : ℕ → List ℕ) (nd : Node) → nd .a < 65536 → Fits32 (nd .value) →
     length (nodeText n self nd) ≤ 13 + total (λ m. length (self m)) (children nd)
+unfolding rowOf children All
 own-bytes n self nd h g =
-    row-bytes n self (nd .a) (nd .b) (nd .c) (nd .value) (nd .kind) (name-bytes n (nd .a) h) (decimal-bytes (nd .value) g)
-    (sign-bytes (nd .c))
+    let (past, each) = row-bytes n self nd (name-bytes n (nd .a) h) (decimal-bytes (nd .value) g) (sign-bytes (nd .c)) in
+    rw (own-row n self nd) (at-all (RowBytes n self nd) blankRow rows past each (nd .kind))

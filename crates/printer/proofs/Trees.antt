@@ -7,19 +7,27 @@ use native.Mathlib.Omega.{arith}
 use lib.IntN.{ℤ}
 use lib.Dec.{ltb}
 use Rattle.lambdamix.specs.Falling.{guarded, below}
-use Rattle.lambdamix.specs.Script.{Script, Node, nodeAt, nodeCount, rows, rowOf, fields, ifChild, childFields, children}
+use Rattle.lambdamix.specs.Script.{Script, Node, nodeAt, nodeCount, rows, rowOf, stepOf, fields, ifChild, childFields, children}
 use Rattle.lambdamix.specs.Term.{Term, blankTerm, childAt, build, terms, treeStep, tree}
 use Rattle.lambdamix.specs.Text.{ascii, digits, decimal}
 use Rattle.lambdamix.specs.Listing.{formerText, spaced, group, termText}
 use Rattle.script.specs.Kinds.{usesTable, useOf}
 use Rattle.lambdamix.proofs.Falling.{falling-step, below-same}
-use Rattle.printer.specs.Nodes.{words, wordOf, wordText, fieldText, nodeText, nodesText}
+use Rattle.lambdamix.proofs.KindCases.{constant-kind, variable-kind, lift-kind, function-kind, application-kind, fix-kind, conditional-kind}
+use Rattle.lambdamix.proofs.KindCases.{operation-kind, dynamic-function-kind, dynamic-application-kind, dynamic-fix-kind, dynamic-if-kind}
+use Rattle.lambdamix.proofs.KindCases.{dynamic-operation-kind}
+use Rattle.script.proofs.TableLaws.{AnyKind, in-table, past-table, any-kind, blank-row, past-rows}
+use Rattle.printer.specs.Nodes.{stepWord, wordOf, wordText, fieldText, nodeText, nodesText}
 use Rattle.printer.proofs.NodeLaws.{node-step}
 
 regroup :
     (w u v t : List ℕ) →
     (40 ∷ []) ++ (w ++ ((u ++ (v ++ (t ++ []))) ++ (41 ∷ []))) ≡ (40 ∷ []) ++ w ++ u ++ v ++ t ++ (41 ∷ [])
 regroup w u v t = simp (append-assoc, append-nil)
+
+-- a text without fields
+alone : (w : List ℕ) → w ≡ w ++ [] ++ [] ++ [] ++ []
+alone w = simp append-nil
 
 -- a word in brackets and its fields, as a group of parts
 module _ (n : ℕ) (t : ℕ → Term) (k a b c : ℕ) (z : ℤ) where
@@ -33,25 +41,25 @@ module _ (n : ℕ) (t : ℕ → Term) (k a b c : ℕ) (z : ℤ) where
 
 -- For each row of the tables, and past them.
 row-text :
-    (n : ℕ) (t : ℕ → Term) (i k a b c : ℕ) (z : ℤ) →
+    (n : ℕ) (t : ℕ → Term) (i a b c : ℕ) (z : ℤ) {k : ℕ} → AnyKind k →
     let nd : Node = record { kind = k; a = a; b = b; c = c; value = z } in
     termText n (build (rowOf nd .step) i nd (terms t (children nd))) ≡ nodeText n (λ m. termText n (t m)) nd
-unfolding termText build rowOf rows terms children childFields ifChild fields childAt nodeText wordOf words useOf usesTable wordText
+unfolding termText build rowOf rows terms children childFields ifChild fields childAt nodeText wordOf stepWord stepOf useOf usesTable wordText
     fieldText group spaced ascii formerText
-row-text n t i zero a b c z = simp append-nil
-row-text n t i (suc zero) a b c z = simp append-nil
-row-text n t i (suc (suc zero)) a b c z = simp append-nil
-row-text n t i (suc (suc (suc zero))) a b c z = in-brackets n t 3 a b c z
-row-text n t i (suc (suc (suc (suc zero)))) a b c z = in-brackets n t 4 a b c z
-row-text n t i (suc (suc (suc (suc (suc zero))))) a b c z = in-brackets n t 5 a b c z
-row-text n t i (suc (suc (suc (suc (suc (suc zero)))))) a b c z = in-brackets n t 6 a b c z
-row-text n t i (suc (suc (suc (suc (suc (suc (suc zero))))))) a b c z = in-brackets n t 7 a b c z
-row-text n t i (suc (suc (suc (suc (suc (suc (suc (suc zero)))))))) a b c z = in-brackets n t 8 a b c z
-row-text n t i (suc (suc (suc (suc (suc (suc (suc (suc (suc zero))))))))) a b c z = in-brackets n t 9 a b c z
-row-text n t i (suc (suc (suc (suc (suc (suc (suc (suc (suc (suc zero)))))))))) a b c z = in-brackets n t 10 a b c z
-row-text n t i (suc (suc (suc (suc (suc (suc (suc (suc (suc (suc (suc zero))))))))))) a b c z = in-brackets n t 11 a b c z
-row-text n t i (suc (suc (suc (suc (suc (suc (suc (suc (suc (suc (suc (suc zero)))))))))))) a b c z = in-brackets n t 12 a b c z
-row-text n t i (suc (suc (suc (suc (suc (suc (suc (suc (suc (suc (suc (suc (suc k))))))))))))) a b c z = simp append-nil
+row-text n t i a b c z (in-table constant-kind) = simp append-nil
+row-text n t i a b c z (in-table variable-kind) = simp append-nil
+row-text n t i a b c z (in-table lift-kind) = simp append-nil
+row-text n t i a b c z (in-table function-kind) = in-brackets n t 3 a b c z
+row-text n t i a b c z (in-table application-kind) = in-brackets n t 4 a b c z
+row-text n t i a b c z (in-table fix-kind) = in-brackets n t 5 a b c z
+row-text n t i a b c z (in-table conditional-kind) = in-brackets n t 6 a b c z
+row-text n t i a b c z (in-table operation-kind) = in-brackets n t 7 a b c z
+row-text n t i a b c z (in-table dynamic-function-kind) = in-brackets n t 8 a b c z
+row-text n t i a b c z (in-table dynamic-application-kind) = in-brackets n t 9 a b c z
+row-text n t i a b c z (in-table dynamic-fix-kind) = in-brackets n t 10 a b c z
+row-text n t i a b c z (in-table dynamic-if-kind) = in-brackets n t 11 a b c z
+row-text n t i a b c z (in-table dynamic-operation-kind) = in-brackets n t 12 a b c z
+row-text n t i a b c z {k} (past-table h) = rw (blank-row h, past-rows k 0 h, past-rows k 1 h, past-rows k 2 h) (alone (decimal z))
 
 -- a guarded answer, mapped
 below-map :
@@ -71,7 +79,7 @@ module _ (n : ℕ) (s : Script) (nodes : ℕ → Node) (same : (i : ℕ) → i <
   upto (suc g) i h r =
       let nd : Node = nodeAt s i in
       ap (termText n) (falling-step blankTerm (treeStep s) i)
-      ∙ row-text n (below i blankTerm (tree s)) i (nd .kind) (nd .a) (nd .b) (nd .c) (nd .value)
+      ∙ row-text n (below i blankTerm (tree s)) i (nd .a) (nd .b) (nd .c) (nd .value) (any-kind (nd .kind))
       ∙ ap (λ (self : ℕ → List ℕ). nodeText n self nd)
       (below-map (termText n) i blankTerm (tree s)
       ∙ below-same i (digits 0) (λ m. termText n (tree s m)) (nodesText n nodes) (λ m l. upto g m (omega arith) (omega arith)))

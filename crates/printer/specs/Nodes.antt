@@ -1,14 +1,15 @@
--- The text of a node, for all kinds together: brackets and a word by one table of thirteen rows, then the fields by the table
--- of their uses. That this is the text of the node's term is `tree-text` of proofs/Trees.antt. Assumes nothing.
+-- The text of a node, for all kinds together: brackets and a leading word by the step of its kind, then the fields by the table of their
+-- uses. A `Word` is what stands first in a node's text, no machine word. That this is the text of the node's term is `tree-text` of
+-- proofs/Trees.antt. Assumes nothing.
 use Prim.Native.Nat.{ℕ, _-_}
 use mathlib.Core.List.{List, [], _∷_, _++_}
 use lib.IntN.{ℤ}
-use lib.ListN.{getD}
 use Rattle.script.specs.Columns.{nodesIn}
 use Rattle.lambdamix.specs.declared.Use.{Use}
 use Rattle.lambdamix.specs.declared.Use.the-variants as Use
 use Rattle.lambdamix.specs.Falling.{falling, below}
-use Rattle.lambdamix.specs.Script.{Node}
+use Rattle.lambdamix.specs.Script.{Node, Step, stepOf, constant, variable, lift, function, application, fix, conditional, operation}
+use Rattle.lambdamix.specs.Script.{dynamicFunction, dynamicApplication, dynamicFix, dynamicIf, dynamicOperation}
 use Rattle.lambdamix.specs.Term.{applying, fixing, choosing, operatorOf}
 use Rattle.lambdamix.specs.Text.{ascii, digits, decimal}
 use Rattle.lambdamix.specs.Listing.{nameText, operatorText, formerText}
@@ -16,12 +17,24 @@ use Rattle.script.specs.Kinds.{useOf}
 use Rattle.printer.specs.declared.Word.{Word}
 use Rattle.printer.specs.declared.Word.the-variants.{Value, Bare, Lam, App, Fix, If, Sign}
 
--- by kind
-unfoldable pub words : List Word
-words = Value ∷ Bare ∷ Bare ∷ Lam ∷ App ∷ Fix ∷ If ∷ Sign ∷ Lam ∷ App ∷ Fix ∷ If ∷ Sign ∷ []
+-- static and dynamic steps have the same words
+unfoldable pub stepWord : Step → Word
+stepWord constant = Value
+stepWord variable = Bare
+stepWord lift = Bare
+stepWord function = Lam
+stepWord application = App
+stepWord fix = Fix
+stepWord conditional = If
+stepWord operation = Sign
+stepWord dynamicFunction = Lam
+stepWord dynamicApplication = App
+stepWord dynamicFix = Fix
+stepWord dynamicIf = If
+stepWord dynamicOperation = Sign
 
 unfoldable pub wordOf : ℕ → Word
-wordOf k = getD words k Value
+wordOf k = stepWord (stepOf k)
 
 -- what stands first in the text of a node of field c and value z
 unfoldable pub wordText : Word → ℕ → ℤ → List ℕ

@@ -13,7 +13,7 @@ use Rattle.lambdamix.specs.Script.{Script, FunctionType, Node, blankNode}
 use Rattle.lambdamix.specs.Types.{blankType}
 use Rattle.lambdamix.proofs.Tests.{and-intro, and-both}
 use Rattle.script.specs.declared.Counts.{Counts}
-use Rattle.script.specs.Bytes.{byteAt, word16, word32, signed32}
+use Rattle.script.specs.Bytes.{byteAt, number16, number32, signed32}
 use Rattle.script.specs.File.{numbered, typeOffset, inputOffset, nodeOffset, typeFrom, inputFrom, nodeFrom, headTypes, headInputs, headNodes, scriptIn}
 use Rattle.script.specs.Tables.{Tables, rowType, rowInput, rowNode, tablesScript, longEnough, over, filled, tablesOf}
 use Rattle.script.specs.Columns.{enough}
@@ -129,14 +129,14 @@ node-place t i f j c p = omega arith
 module _ (bs : List ℕ) (n : Counts) (x : Tables) where
   pub tables-filled : (f g h : ℕ) → f ≡ typeOffset 0 → g ≡ inputOffset (n .types) 0 → h ≡ nodeOffset (n .types) (n .inputs) 0
       → {ps rs is ks xs ys zs : List ℕ} {vs : List ℤ}
-      → ps ≡ over (numbered (λ j. word16 bs (f + 6 * j + 2)) 0 (n .types)) (x .parameters)
-      → rs ≡ over (numbered (λ j. word16 bs (f + 6 * j + 4)) 0 (n .types)) (x .results)
-      → is ≡ over (numbered (λ j. word16 bs (g + 4 * j + 2)) 0 (n .inputs)) (x .inputs)
+      → ps ≡ over (numbered (λ j. number16 bs (f + 6 * j + 2)) 0 (n .types)) (x .parameters)
+      → rs ≡ over (numbered (λ j. number16 bs (f + 6 * j + 4)) 0 (n .types)) (x .results)
+      → is ≡ over (numbered (λ j. number16 bs (g + 4 * j + 2)) 0 (n .inputs)) (x .inputs)
       → ks ≡ over (numbered (λ j. byteAt bs (h + 13 * j + 2)) 0 (n .nodes)) (x .kinds)
-      → xs ≡ over (numbered (λ j. word16 bs (h + 13 * j + 3)) 0 (n .nodes)) (x .a)
-      → ys ≡ over (numbered (λ j. word16 bs (h + 13 * j + 5)) 0 (n .nodes)) (x .b)
-      → zs ≡ over (numbered (λ j. word16 bs (h + 13 * j + 7)) 0 (n .nodes)) (x .c)
-      → vs ≡ over (numbered (λ j. signed32 (word32 bs (h + 13 * j + 9))) 0 (n .nodes)) (x .values)
+      → xs ≡ over (numbered (λ j. number16 bs (h + 13 * j + 3)) 0 (n .nodes)) (x .a)
+      → ys ≡ over (numbered (λ j. number16 bs (h + 13 * j + 5)) 0 (n .nodes)) (x .b)
+      → zs ≡ over (numbered (λ j. number16 bs (h + 13 * j + 7)) 0 (n .nodes)) (x .c)
+      → vs ≡ over (numbered (λ j. signed32 (number32 bs (h + 13 * j + 9))) 0 (n .nodes)) (x .values)
       → tablesOf ps rs is ks xs ys zs vs ≡ filled (scriptBy n bs) x
   unfolding filled scriptBy typeFrom inputFrom nodeFrom
   tables-filled f g h u v w p q r s a b c d =
@@ -144,14 +144,14 @@ module _ (bs : List ℕ) (n : Counts) (x : Tables) where
       let nodes : ℕ → Node = λ j. nodeFrom bs (nodeOffset (n .types) (n .inputs) j) in
       λ i.
       tablesOf
-      (column-filled (λ (t : FunctionType). t .parameter) types _ _ (x .parameters) (λ j. ap (word16 bs) (type-place f j 2 u)) p i)
-      (column-filled (λ (t : FunctionType). t .result) types _ _ (x .results) (λ j. ap (word16 bs) (type-place f j 4 u)) q i)
-      (inputs-filled (λ j. inputFrom bs (inputOffset (n .types) j)) _ _ (x .inputs) (λ j. ap (word16 bs) (input-place (n .types) g j v)) r i)
+      (column-filled (λ (t : FunctionType). t .parameter) types _ _ (x .parameters) (λ j. ap (number16 bs) (type-place f j 2 u)) p i)
+      (column-filled (λ (t : FunctionType). t .result) types _ _ (x .results) (λ j. ap (number16 bs) (type-place f j 4 u)) q i)
+      (inputs-filled (λ j. inputFrom bs (inputOffset (n .types) j)) _ _ (x .inputs) (λ j. ap (number16 bs) (input-place (n .types) g j v)) r i)
       (column-filled (λ (y : Node). y .kind) nodes _ _ (x .kinds) (λ j. ap (byteAt bs) (node-place (n .types) (n .inputs) h j 2 w)) s i)
-      (column-filled (λ (y : Node). y .a) nodes _ _ (x .a) (λ j. ap (word16 bs) (node-place (n .types) (n .inputs) h j 3 w)) a i)
-      (column-filled (λ (y : Node). y .b) nodes _ _ (x .b) (λ j. ap (word16 bs) (node-place (n .types) (n .inputs) h j 5 w)) b i)
-      (column-filled (λ (y : Node). y .c) nodes _ _ (x .c) (λ j. ap (word16 bs) (node-place (n .types) (n .inputs) h j 7 w)) c i)
-      (column-filled (λ (y : Node). y .value) nodes _ _ (x .values) (λ j. ap (λ (k : ℕ). signed32 (word32 bs k)) (node-place (n .types) (n
+      (column-filled (λ (y : Node). y .a) nodes _ _ (x .a) (λ j. ap (number16 bs) (node-place (n .types) (n .inputs) h j 3 w)) a i)
+      (column-filled (λ (y : Node). y .b) nodes _ _ (x .b) (λ j. ap (number16 bs) (node-place (n .types) (n .inputs) h j 5 w)) b i)
+      (column-filled (λ (y : Node). y .c) nodes _ _ (x .c) (λ j. ap (number16 bs) (node-place (n .types) (n .inputs) h j 7 w)) c i)
+      (column-filled (λ (y : Node). y .value) nodes _ _ (x .values) (λ j. ap (λ (k : ℕ). signed32 (number32 bs k)) (node-place (n .types) (n
       .inputs) h j 9 w)) d i)
 
 -- ---- which tables can be filled

@@ -2,7 +2,12 @@
 use script::column::at8;
 use script::word::signed;
 ghost use mathlib.Core.Path.{_≡_};
-ghost use Rattle.script.specs.Bytes.{word16, word32, signed32};
+ghost use Rattle.script.specs.Bytes.{number16, number32, signed32};
+
+// The units of a number's second byte and of its upper half.
+const BYTE: u16 = 256;
+
+const HALF: u32 = 65536;
 
 fn wide8(x: u8) -> u16
     ensures { λ r. ⌜ r ≡ x ⌝ }
@@ -16,30 +21,30 @@ fn wide16(x: u16) -> u32
     x as u32
 }
 
-pub fn word16(s: &[u8], i: usize) -> u16
-    ensures { λ r. ⌜ r ≡ word16 (now (s .entry)) i ⌝ }
+pub fn number16(s: &[u8], i: usize) -> u16
+    ensures { λ r. ⌜ r ≡ number16 (now (s .entry)) i ⌝ }
 {
     if i < s.len() {
         let low = wide8(at8(s, i));
         let high = wide8(at8(s, i + 1));
-        return low + 256 * high;
+        return low + BYTE * high;
     }
     0
 }
 
-pub fn word32(s: &[u8], i: usize) -> u32
-    ensures { λ r. ⌜ r ≡ word32 (now (s .entry)) i ⌝ }
+pub fn number32(s: &[u8], i: usize) -> u32
+    ensures { λ r. ⌜ r ≡ number32 (now (s .entry)) i ⌝ }
 {
     if i < s.len() {
-        let low = wide16(word16(s, i));
-        let high = wide16(word16(s, i + 2));
-        return low + 65536 * high;
+        let low = wide16(number16(s, i));
+        let high = wide16(number16(s, i + 2));
+        return low + HALF * high;
     }
     0
 }
 
 pub fn value32(s: &[u8], i: usize) -> i32
-    ensures { λ r. ⌜ r ≡ signed32 (word32 (now (s .entry)) i) ⌝ }
+    ensures { λ r. ⌜ r ≡ signed32 (number32 (now (s .entry)) i) ⌝ }
 {
-    signed(word32(s, i))
+    signed(number32(s, i))
 }

@@ -1,6 +1,6 @@
 // Columns filled from a file: one thing of each record, the records standing at equal distances.
+use crate::bytes::number16;
 use crate::bytes::value32;
-use crate::bytes::word16;
 use script::column::at8;
 use script::column::put8;
 use script::column::put16;
@@ -8,7 +8,7 @@ use script::column::put32;
 ghost use mathlib.Core.Path.{_≡_};
 ghost use Prim.Native.Nat.{_+_, _*_, _≤_};
 ghost use lib.ListN.{length};
-ghost use Rattle.script.specs.Bytes.{byteAt, word16, word32, signed32};
+ghost use Rattle.script.specs.Bytes.{byteAt, number16, number32, signed32};
 ghost use Rattle.script.specs.File.{numbered};
 ghost use Rattle.script.specs.Tables.{over};
 
@@ -33,11 +33,11 @@ pub(crate) fn fill8(file: &[u8], first: u32, stride: u8, field: u8, count: u16, 
 
 pub(crate) fn fill16(file: &[u8], first: u32, stride: u8, field: u8, count: u16, column: &mut [u16])
     requires { ⌜ count ≤ length (now column) ⌝ }
-    ensures { λ r. ⌜ now (column .exit) ≡ over (numbered (λ j. word16 (now (file .entry)) (first + stride * j + field)) 0 count) (now (column .entry)) ⌝ }
+    ensures { λ r. ⌜ now (column .exit) ≡ over (numbered (λ j. number16 (now (file .entry)) (first + stride * j + field)) 0 count) (now (column .entry)) ⌝ }
 {
     let mut j: u16 = 0;
     while j < count {
-        let v = word16(file, place(first, stride, j, field));
+        let v = number16(file, place(first, stride, j, field));
         put16(column, j as usize, v);
         j += 1;
     }
@@ -45,7 +45,7 @@ pub(crate) fn fill16(file: &[u8], first: u32, stride: u8, field: u8, count: u16,
 
 pub(crate) fn fill32(file: &[u8], first: u32, stride: u8, field: u8, count: u16, column: &mut [i32])
     requires { ⌜ count ≤ length (now column) ⌝ }
-    ensures { λ r. ⌜ now (column .exit) ≡ over (numbered (λ j. signed32 (word32 (now (file .entry)) (first + stride * j + field))) 0 count) (now (column .entry)) ⌝ }
+    ensures { λ r. ⌜ now (column .exit) ≡ over (numbered (λ j. signed32 (number32 (now (file .entry)) (first + stride * j + field))) 0 count) (now (column .entry)) ⌝ }
 {
     let mut j: u16 = 0;
     while j < count {

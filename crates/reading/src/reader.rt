@@ -1,5 +1,5 @@
 // The reader: refusals 1 to 8 of a file, then its records into lent tables.
-use crate::bytes::word16;
+use crate::bytes::number16;
 use crate::fill::fill8;
 use crate::fill::fill16;
 use crate::fill::fill32;
@@ -36,9 +36,9 @@ pub fn head_counts(file: &[u8]) -> Counts
     ensures { λ r. ⌜ r ≡ headCounts (now (file .entry)) ⌝ }
 {
     Counts {
-        types: word16(file, 2),
-        inputs: word16(file, 4),
-        nodes: word16(file, 6),
+        types: number16(file, 2),
+        inputs: number16(file, 4),
+        nodes: number16(file, 6),
     }
 }
 

@@ -20,12 +20,16 @@ use Rattle.lambdamix.specs.Arithmetic.{operators}
 use Rattle.lambdamix.specs.Term.{operatorOf}
 use Rattle.lambdamix.specs.Code.{Code, Codes, lit, ref, fn, form, nilC, consC, operatorNumber}
 use Rattle.lambdamix.proofs.Falling.{falling-step, below-at, below-out}
+use Rattle.lambdamix.proofs.KindCases.{constant-kind, variable-kind, lift-kind, function-kind, application-kind, fix-kind, conditional-kind}
+use Rattle.lambdamix.proofs.KindCases.{operation-kind, dynamic-function-kind, dynamic-application-kind, dynamic-fix-kind, dynamic-if-kind}
+use Rattle.lambdamix.proofs.KindCases.{dynamic-operation-kind}
 use Rattle.script.specs.Bytes.{signedBy, signed32}
 use Rattle.script.specs.declared.Row.{Row}
 use Rattle.script.specs.KindRows.{rowAt}
 use Rattle.script.specs.Words.{wordValue, wordKind, wordA, wordB, wordC}
+use Rattle.script.proofs.TableLaws.{AnyKind, in-table, past-table, any-kind, blank-row}
 use Rattle.residual.specs.Cells.{two, codeBy, codeStep, codeAt, codeBelow, pieceBy, rowPieces, pieces}
-use Rattle.residual.specs.Cells.{spendBy, spendLeaf, spend, spendAll, spendOne, roomOf, Spends, SpendsUnder, SpendsAll}
+use Rattle.residual.specs.Cells.{chargeBy, chargeLeaf, charge, chargeAll, chargeOne, roomOf, Charges, ChargesUnder, ChargesAll}
 use Rattle.residual.proofs.Rows.{by-piece, HasRow, ByRow, kind-row}
 
 pub past-operators : (f : ℕ) → 6 ≤ f → 0 ≡ operatorNumber (operatorOf f)
@@ -50,22 +54,22 @@ below-none xs p q h = below-out p (lit (pos 0)) (codeAt xs) q h
 abbrev pub Other : Type 0 → ℕ → Type 0
 Other N k = (((((N × (k ≡ 1 → ⊥)) × (k ≡ 8 → ⊥)) × (k ≡ 9 → ⊥)) × (k ≡ 10 → ⊥)) × (k ≡ 11 → ⊥)) × (k ≡ 12 → ⊥)
 
-other-kind : {N : Type 0} (self : ℕ → Code) (x k : ℕ) → Other N k → codeBy (stepOf k) self x ≡ lit (wordValue x)
+other-kind : {N : Type 0} (self : ℕ → Code) (x : ℕ) {k : ℕ} → AnyKind k → Other N k → codeBy (stepOf k) self x ≡ lit (wordValue x)
 unfolding stepOf rows codeBy
-other-kind self x zero r = refl
-other-kind self x (suc zero) r = absurd (r .0 .0 .0 .0 .0 .1 refl)
-other-kind self x (suc (suc zero)) r = refl
-other-kind self x (suc (suc (suc zero))) r = refl
-other-kind self x (suc (suc (suc (suc zero)))) r = refl
-other-kind self x (suc (suc (suc (suc (suc zero))))) r = refl
-other-kind self x (suc (suc (suc (suc (suc (suc zero)))))) r = refl
-other-kind self x (suc (suc (suc (suc (suc (suc (suc zero))))))) r = refl
-other-kind self x (suc (suc (suc (suc (suc (suc (suc (suc zero)))))))) r = absurd (r .0 .0 .0 .0 .1 refl)
-other-kind self x (suc (suc (suc (suc (suc (suc (suc (suc (suc zero))))))))) r = absurd (r .0 .0 .0 .1 refl)
-other-kind self x (suc (suc (suc (suc (suc (suc (suc (suc (suc (suc zero)))))))))) r = absurd (r .0 .0 .1 refl)
-other-kind self x (suc (suc (suc (suc (suc (suc (suc (suc (suc (suc (suc zero))))))))))) r = absurd (r .0 .1 refl)
-other-kind self x (suc (suc (suc (suc (suc (suc (suc (suc (suc (suc (suc (suc zero)))))))))))) r = absurd (r .1 refl)
-other-kind self x (suc (suc (suc (suc (suc (suc (suc (suc (suc (suc (suc (suc (suc k))))))))))))) r = refl
+other-kind self x (in-table constant-kind) r = refl
+other-kind self x (in-table variable-kind) r = absurd (r .0 .0 .0 .0 .0 .1 refl)
+other-kind self x (in-table lift-kind) r = refl
+other-kind self x (in-table function-kind) r = refl
+other-kind self x (in-table application-kind) r = refl
+other-kind self x (in-table fix-kind) r = refl
+other-kind self x (in-table conditional-kind) r = refl
+other-kind self x (in-table operation-kind) r = refl
+other-kind self x (in-table dynamic-function-kind) r = absurd (r .0 .0 .0 .0 .1 refl)
+other-kind self x (in-table dynamic-application-kind) r = absurd (r .0 .0 .0 .1 refl)
+other-kind self x (in-table dynamic-fix-kind) r = absurd (r .0 .0 .1 refl)
+other-kind self x (in-table dynamic-if-kind) r = absurd (r .0 .1 refl)
+other-kind self x (in-table dynamic-operation-kind) r = absurd (r .1 refl)
+other-kind self x (past-table h) r = rw (blank-row h)
 
 -- the cell x of kind k stands at p
 pub record Cell (xs : List ℕ) (p x k : ℕ) : Type 0 where
@@ -89,7 +93,7 @@ module _ {xs : List ℕ} {p x k : ℕ} (s : Cell xs p x k) where
   is-row h g e = rw (by-kind g, e) (kind-row h (codeBelow xs p) x)
 
   pub is-constant : {N : Type 0} → Other N k → Read xs p (lit (wordValue x))
-  is-constant r = record { code = by-kind refl ∙ other-kind (codeBelow xs p) x k r }
+  is-constant r = record { code = by-kind refl ∙ other-kind (codeBelow xs p) x (any-kind k) r }
 
 zero-value : wordValue 0 ≡ pos 0
 unfolding wordValue signed32 signedBy
@@ -104,104 +108,104 @@ past-read {xs} {p} h =
 
 -- ---- counting
 
-all-none : (cs : Codes) (h : ℕ) → spendAll cs none h ≡ none
-unfolding spend
+all-none : (cs : Codes) (h : ℕ) → chargeAll cs none h ≡ none
+unfolding charge
 all-none nilC h = refl
 all-none (consC c cs) h = refl
 
-own-spent : (b h : ℕ) → spendLeaf 1 (suc b) (suc h) ≡ some b
-unfolding spendLeaf spendBy
-own-spent b h = rw (le-leb 1 (suc b) (omega arith), le-leb 1 (suc h) (omega arith)) (ap some (omega arith))
+own-charged : (b h : ℕ) → chargeLeaf 1 (suc b) (suc h) ≡ some b
+unfolding chargeLeaf chargeBy
+own-charged b h = rw (le-leb 1 (suc b) (omega arith), le-leb 1 (suc h) (omega arith)) (ap some (omega arith))
 
 -- k nodes are too many, or too high
-nodes-over : (k h : ℕ) → spendLeaf (suc k) 0 h ≡ none
-unfolding spendLeaf spendBy
+nodes-over : (k h : ℕ) → chargeLeaf (suc k) 0 h ≡ none
+unfolding chargeLeaf chargeBy
 nodes-over k h = rw (leb·suc-zero k)
 
-height-over : (k b : ℕ) → spendLeaf (suc k) b 0 ≡ none
-unfolding spendLeaf spendBy
+height-over : (k b : ℕ) → chargeLeaf (suc k) b 0 ≡ none
+unfolding chargeLeaf chargeBy
 height-over k b = rw (leb·suc-zero k) (go (leb (suc k) b))
   where
-    go : (t : Bool) → spendBy (t && false) (suc k) b ≡ none
+    go : (t : Bool) → chargeBy (t && false) (suc k) b ≡ none
     go true = refl
     go false = refl
 
-lift-spent : (b h : ℕ) → spendLeaf 2 (suc b) (suc h) ≡ spendLeaf 1 b h
-unfolding spendLeaf spendBy
-lift-spent b h = rw (leb·suc-suc 1 b, leb·suc-suc 1 h) (go (leb 1 b && leb 1 h))
+lift-charged : (b h : ℕ) → chargeLeaf 2 (suc b) (suc h) ≡ chargeLeaf 1 b h
+unfolding chargeLeaf chargeBy
+lift-charged b h = rw (leb·suc-suc 1 b, leb·suc-suc 1 h) (go (leb 1 b && leb 1 h))
   where
-    go : (t : Bool) → spendBy t 2 (suc b) ≡ spendBy t 1 b
+    go : (t : Bool) → chargeBy t 2 (suc b) ≡ chargeBy t 1 b
     go true = ap some (omega arith)
     go false = refl
 
 -- Code counts as its own node, and then its pieces, one less high.
-spend-pieces : (c : Code) (o : Option ℕ) (h : ℕ) → spendOne c o h ≡ spendAll (pieces c) (spendOne (ref 0) o h) (h - 1)
-unfolding spend
-spend-pieces c none h = sym (all-none (pieces c) (h - 1))
-spend-pieces (ref x) (some b) h = refl
-spend-pieces (lit z) (some zero) h = rw (nodes-over 1 h, nodes-over 0 h)
-spend-pieces (lit z) (some (suc b)) zero = rw (height-over 1 (suc b), height-over 0 (suc b))
-spend-pieces (lit z) (some (suc b)) (suc h) =
-    let e : suc h - 1 ≡ h = omega arith in rw (own-spent b h, e, lift-spent b h)
-spend-pieces (fn x c) (some zero) h = rw (nodes-over 0 h)
-spend-pieces (fn x c) (some (suc b)) zero = rw (height-over 0 (suc b))
-spend-pieces (fn x c) (some (suc b)) (suc h) = let e : suc h - 1 ≡ h = omega arith in rw (own-spent b h, e)
-spend-pieces (form f cs) (some zero) h = rw (nodes-over 0 h, all-none cs (h - 1))
-spend-pieces (form f cs) (some (suc b)) zero = rw (height-over 0 (suc b), all-none cs (0 - 1))
-spend-pieces (form f cs) (some (suc b)) (suc h) = let e : suc h - 1 ≡ h = omega arith in rw (own-spent b h, e)
+charge-pieces : (c : Code) (o : Option ℕ) (h : ℕ) → chargeOne c o h ≡ chargeAll (pieces c) (chargeOne (ref 0) o h) (h - 1)
+unfolding charge
+charge-pieces c none h = sym (all-none (pieces c) (h - 1))
+charge-pieces (ref x) (some b) h = refl
+charge-pieces (lit z) (some zero) h = rw (nodes-over 1 h, nodes-over 0 h)
+charge-pieces (lit z) (some (suc b)) zero = rw (height-over 1 (suc b), height-over 0 (suc b))
+charge-pieces (lit z) (some (suc b)) (suc h) =
+    let e : suc h - 1 ≡ h = omega arith in rw (own-charged b h, e, lift-charged b h)
+charge-pieces (fn x c) (some zero) h = rw (nodes-over 0 h)
+charge-pieces (fn x c) (some (suc b)) zero = rw (height-over 0 (suc b))
+charge-pieces (fn x c) (some (suc b)) (suc h) = let e : suc h - 1 ≡ h = omega arith in rw (own-charged b h, e)
+charge-pieces (form f cs) (some zero) h = rw (nodes-over 0 h, all-none cs (h - 1))
+charge-pieces (form f cs) (some (suc b)) zero = rw (height-over 0 (suc b), all-none cs (0 - 1))
+charge-pieces (form f cs) (some (suc b)) (suc h) = let e : suc h - 1 ≡ h = omega arith in rw (own-charged b h, e)
 
 -- ---- rooms
 
 module _ (room h : ℕ) where
-  pub no-room : room < 2 → none ≡ spendOne (ref 0) (roomOf room) h
-  unfolding spend roomOf
+  pub no-room : room < 2 → none ≡ chargeOne (ref 0) (roomOf room) h
+  unfolding charge roomOf
   no-room l = go room l
     where
-      go : (room : ℕ) → room < 2 → none ≡ spendOne (ref 0) (roomOf room) h
+      go : (room : ℕ) → room < 2 → none ≡ chargeOne (ref 0) (roomOf room) h
       go zero l = refl
       go (suc zero) l = sym (nodes-over 0 h)
       go (suc (suc b)) l = let z : ⊥ = omega arith in absurd z
 
-  pub no-height : h ≡ 0 → none ≡ spendOne (ref 0) (roomOf room) h
-  unfolding spend roomOf
+  pub no-height : h ≡ 0 → none ≡ chargeOne (ref 0) (roomOf room) h
+  unfolding charge roomOf
   no-height e = rw e (go room)
     where
-      go : (room : ℕ) → none ≡ spendOne (ref 0) (roomOf room) 0
+      go : (room : ℕ) → none ≡ chargeOne (ref 0) (roomOf room) 0
       go zero = refl
       go (suc b) = sym (height-over 0 b)
 
-  pub node-left : 2 ≤ room → (h ≡ 0 → ⊥) → roomOf (room - 1) ≡ spendOne (ref 0) (roomOf room) h
-  unfolding spend roomOf
+  pub node-left : 2 ≤ room → (h ≡ 0 → ⊥) → roomOf (room - 1) ≡ chargeOne (ref 0) (roomOf room) h
+  unfolding charge roomOf
   node-left l f = go room h l f
     where
-      go : (room h : ℕ) → 2 ≤ room → (h ≡ 0 → ⊥) → roomOf (room - 1) ≡ spendOne (ref 0) (roomOf room) h
+      go : (room h : ℕ) → 2 ≤ room → (h ≡ 0 → ⊥) → roomOf (room - 1) ≡ chargeOne (ref 0) (roomOf room) h
       go zero h l f = let z : ⊥ = omega arith in absurd z
       go (suc zero) h l f = let z : ⊥ = omega arith in absurd z
       go (suc (suc b)) zero l f = absurd (f refl)
-      go (suc (suc b)) (suc h) l f = let e : suc (suc b) - 1 ≡ suc b = omega arith in rw e (sym (own-spent b h))
+      go (suc (suc b)) (suc h) l f = let e : suc (suc b) - 1 ≡ suc b = omega arith in rw e (sym (own-charged b h))
 
 -- ---- pieces
 
-spend-more : (c : Code) (cs : Codes) (o : Option ℕ) (h : ℕ) → spendAll (consC c cs) o h ≡ spendAll cs (spendOne c o h) h
-unfolding spend
-spend-more c cs none h = sym (all-none cs h)
-spend-more c cs (some b) h = refl
+charge-more : (c : Code) (cs : Codes) (o : Option ℕ) (h : ℕ) → chargeAll (consC c cs) o h ≡ chargeAll cs (chargeOne c o h) h
+unfolding charge
+charge-more c cs none h = sym (all-none cs h)
+charge-more c cs (some b) h = refl
 
 -- a node where there is height for it
-node-spent : (room h : ℕ) → spendOne (ref 0) (roomOf room) (suc h) ≡ roomOf (room - 1)
-unfolding spend roomOf
-node-spent zero h = refl
-node-spent (suc zero) h = nodes-over 0 (suc h)
-node-spent (suc (suc b)) h = let e : suc (suc b) - 1 ≡ suc b = omega arith in rw e (own-spent b h)
+node-charged : (room h : ℕ) → chargeOne (ref 0) (roomOf room) (suc h) ≡ roomOf (room - 1)
+unfolding charge roomOf
+node-charged zero h = refl
+node-charged (suc zero) h = nodes-over 0 (suc h)
+node-charged (suc (suc b)) h = let e : suc (suc b) - 1 ≡ suc b = omega arith in rw e (own-charged b h)
 
-code-spent : (c : Code) (room low : ℕ) → spendOne c (roomOf room) (low + 1) ≡ spendAll (pieces c) (roomOf (room - 1)) low
-code-spent c room low =
-    let e : suc low - 1 ≡ low = omega arith in
-    rw (add-one low) (spend-pieces c (roomOf room) (suc low) ∙ rw (node-spent room low, e))
+code-charged : (c : Code) (room levels : ℕ) → chargeOne c (roomOf room) (levels + 1) ≡ chargeAll (pieces c) (roomOf (room - 1)) levels
+code-charged c room levels =
+    let e : suc levels - 1 ≡ levels = omega arith in
+    rw (add-one levels) (charge-pieces c (roomOf room) (suc levels) ∙ rw (node-charged room levels, e))
 
 -- nothing is left where there is no height
-none-flat : (c : Code) (o : Option ℕ) → spendOne c o 0 ≡ none
-unfolding spend
+none-flat : (c : Code) (o : Option ℕ) → chargeOne c o 0 ≡ none
+unfolding charge
 none-flat c none = refl
 none-flat (lit z) (some b) = height-over 1 b
 none-flat (ref x) (some b) = height-over 0 b
@@ -210,117 +214,118 @@ none-flat (fn x c) (some (suc b)) = refl
 none-flat (form f cs) (some zero) = refl
 none-flat (form f cs) (some (suc b)) = refl
 
-all-flat : (c : Code) (cs : Codes) (o : Option ℕ) → spendAll (consC c cs) o 0 ≡ none
-all-flat c cs o = spend-more c cs o 0 ∙ rw (none-flat c o) (all-none cs 0)
+all-flat : (c : Code) (cs : Codes) (o : Option ℕ) → chargeAll (consC c cs) o 0 ≡ none
+all-flat c cs o = charge-more c cs o 0 ∙ rw (none-flat c o) (all-none cs 0)
 
 -- any cell but a variable's has something under its node
-kind-flat : (k : ℕ) (self : ℕ → Code) (x : ℕ) (o : Option ℕ) → (k ≡ 1 → ⊥) → spendAll (pieces (codeBy (stepOf k) self x)) o 0 ≡ none
+kind-flat :
+    {k : ℕ} → AnyKind k → (self : ℕ → Code) (x : ℕ) (o : Option ℕ) → (k ≡ 1 → ⊥) → chargeAll (pieces (codeBy (stepOf k) self x)) o 0 ≡ none
 unfolding stepOf rows codeBy
-kind-flat zero self x o f = all-flat (ref 0) nilC o
-kind-flat (suc zero) self x o f = absurd (f refl)
-kind-flat (suc (suc zero)) self x o f = all-flat (ref 0) nilC o
-kind-flat (suc (suc (suc zero))) self x o f = all-flat (ref 0) nilC o
-kind-flat (suc (suc (suc (suc zero)))) self x o f = all-flat (ref 0) nilC o
-kind-flat (suc (suc (suc (suc (suc zero))))) self x o f = all-flat (ref 0) nilC o
-kind-flat (suc (suc (suc (suc (suc (suc zero)))))) self x o f = all-flat (ref 0) nilC o
-kind-flat (suc (suc (suc (suc (suc (suc (suc zero))))))) self x o f = all-flat (ref 0) nilC o
-kind-flat (suc (suc (suc (suc (suc (suc (suc (suc zero)))))))) self x o f = all-flat (self (wordC x)) nilC o
-kind-flat (suc (suc (suc (suc (suc (suc (suc (suc (suc zero))))))))) self x o f = all-flat (self (wordA x)) (consC (self (wordB x)) nilC) o
-kind-flat (suc (suc (suc (suc (suc (suc (suc (suc (suc (suc zero)))))))))) self x o f = all-flat (self (wordA x)) nilC o
-kind-flat (suc (suc (suc (suc (suc (suc (suc (suc (suc (suc (suc zero))))))))))) self x o f =
-    all-flat (self (wordA x)) (two (self (wordB x)) (self (wordC x))) o
-kind-flat (suc (suc (suc (suc (suc (suc (suc (suc (suc (suc (suc (suc zero)))))))))))) self x o f = all-flat (self (wordA x)) (consC (self (wordB x)) nilC) o
-kind-flat (suc (suc (suc (suc (suc (suc (suc (suc (suc (suc (suc (suc (suc k))))))))))))) self x o f = all-flat (ref 0) nilC o
+kind-flat (in-table constant-kind) self x o f = all-flat (ref 0) nilC o
+kind-flat (in-table variable-kind) self x o f = absurd (f refl)
+kind-flat (in-table lift-kind) self x o f = all-flat (ref 0) nilC o
+kind-flat (in-table function-kind) self x o f = all-flat (ref 0) nilC o
+kind-flat (in-table application-kind) self x o f = all-flat (ref 0) nilC o
+kind-flat (in-table fix-kind) self x o f = all-flat (ref 0) nilC o
+kind-flat (in-table conditional-kind) self x o f = all-flat (ref 0) nilC o
+kind-flat (in-table operation-kind) self x o f = all-flat (ref 0) nilC o
+kind-flat (in-table dynamic-function-kind) self x o f = all-flat (self (wordC x)) nilC o
+kind-flat (in-table dynamic-application-kind) self x o f = all-flat (self (wordA x)) (consC (self (wordB x)) nilC) o
+kind-flat (in-table dynamic-fix-kind) self x o f = all-flat (self (wordA x)) nilC o
+kind-flat (in-table dynamic-if-kind) self x o f = all-flat (self (wordA x)) (two (self (wordB x)) (self (wordC x))) o
+kind-flat (in-table dynamic-operation-kind) self x o f = all-flat (self (wordA x)) (consC (self (wordB x)) nilC) o
+kind-flat (past-table h) self x o f = rw (blank-row h) (all-flat (ref 0) nilC o)
 
 -- a piece: its own node, and what is under it
-module _ {xs : List ℕ} {p q room low : ℕ} where
-  pub spends-none : room < 2 → Spends xs p q room low 0
+module _ {xs : List ℕ} {p q room levels : ℕ} where
+  pub charges-none : room < 2 → Charges xs p q room levels 0
   unfolding roomOf
-  spends-none l =
+  charges-none l =
       let e : room - 1 ≡ 0 = omega arith in
-      record { left = sym (code-spent (codeBelow xs p q) room low ∙ rw e (all-none (pieces (codeBelow xs p q)) low)) }
+      record { left = sym (code-charged (codeBelow xs p q) room levels ∙ rw e (all-none (pieces (codeBelow xs p q)) levels)) }
 
-  pub spends-lift : {r : ℕ} → p ≤ q → roomOf r ≡ spendOne (ref 0) (roomOf (room - 1)) low → Spends xs p q room low r
-  spends-lift l s = record { left = s ∙ sym (code-spent (codeBelow xs p q) room low ∙ rw (below-none xs p q l)) }
+  pub charges-lift : {r : ℕ} → p ≤ q → roomOf r ≡ chargeOne (ref 0) (roomOf (room - 1)) levels → Charges xs p q room levels r
+  charges-lift l s = record { left = s ∙ sym (code-charged (codeBelow xs p q) room levels ∙ rw (below-none xs p q l)) }
 
   module _ (l : q < p) where
-    pub spends-variable : {x k : ℕ} → Cell xs q x k → k ≡ 1 → Spends xs p q room low (room - 1)
-    unfolding spend
-    spends-variable s g = record { left = sym (code-spent (codeBelow xs p q) room low ∙ rw (below-there xs p q l, is-variable s g .code)) }
+    pub charges-variable : {x k : ℕ} → Cell xs q x k → k ≡ 1 → Charges xs p q room levels (room - 1)
+    unfolding charge
+    charges-variable s g = record { left = sym (code-charged (codeBelow xs p q) room levels ∙ rw (below-there xs p q l, is-variable s g .code)) }
 
-    pub spends-flat : {x k : ℕ} → Cell xs q x k → (k ≡ 1 → ⊥) → low ≡ 0 → Spends xs p q room low 0
+    pub charges-flat : {x k : ℕ} → Cell xs q x k → (k ≡ 1 → ⊥) → levels ≡ 0 → Charges xs p q room levels 0
     unfolding roomOf
-    spends-flat {x} {k} s g z =
+    charges-flat {x} {k} s g z =
         record {
           left =
               sym
-              (code-spent (codeBelow xs p q) room low
-              ∙ rw (z, below-there xs p q l, by-kind s refl) (kind-flat k (codeBelow xs q) x (roomOf (room - 1)) g));
+              (code-charged (codeBelow xs p q) room levels
+              ∙ rw (z, below-there xs p q l, by-kind s refl) (kind-flat (any-kind k) (codeBelow xs q) x (roomOf (room - 1)) g));
         }
 
-    pub spends-under : {r : ℕ} → (low ≡ 0 → ⊥) → SpendsUnder xs q (room - 1) (low - 1) r → Spends xs p q room low r
-    spends-under f s =
-        let e : low - 1 + 1 ≡ low = omega (arith, f) in
-        record { left = rw e at (s .left) ∙ sym (code-spent (codeBelow xs p q) room low ∙ rw (below-there xs p q l)) }
+    pub charges-under : {r : ℕ} → (levels ≡ 0 → ⊥) → ChargesUnder xs q (room - 1) (levels - 1) r → Charges xs p q room levels r
+    charges-under f s =
+        let e : levels - 1 + 1 ≡ levels = omega (arith, f) in
+        record { left = rw e at (s .left) ∙ sym (code-charged (codeBelow xs p q) room levels ∙ rw (below-there xs p q l)) }
 
 -- what is under a node: pieces one after the other
-pub under-code : {xs : List ℕ} {p room low r : ℕ} {c : Code} → Read xs p c → SpendsAll (pieces c) room low r → SpendsUnder xs p room low r
+pub under-code : {xs : List ℕ} {p room levels r : ℕ} {c : Code} → Read xs p c → ChargesAll (pieces c) room levels r → ChargesUnder xs p room levels r
 under-code e s = record { left = rw (e .code) (s .left) }
 
 pub under-row :
-    {xs : List ℕ} {p x j room low r : ℕ} {w : Row} → ByRow (codeAt xs p) j w (codeBelow xs p) x →
-    SpendsAll (rowPieces w (codeBelow xs p) x) room low r → SpendsUnder xs p room low r
+    {xs : List ℕ} {p x j room levels r : ℕ} {w : Row} → ByRow (codeAt xs p) j w (codeBelow xs p) x →
+    ChargesAll (rowPieces w (codeBelow xs p) x) room levels r → ChargesUnder xs p room levels r
 under-row b s = record { left = rw (b .pieces) (s .left) }
 
-pub all-node : {room low r : ℕ} → roomOf r ≡ spendOne (ref 0) (roomOf room) 1 → SpendsAll (consC (ref 0) nilC) room low r
-all-node {room} {low} s = record { left = s ∙ node-spent room 0 ∙ sym (rw (add-one low) (node-spent room low)) }
+pub all-node : {room levels r : ℕ} → roomOf r ≡ chargeOne (ref 0) (roomOf room) 1 → ChargesAll (consC (ref 0) nilC) room levels r
+all-node {room} {levels} s = record { left = s ∙ node-charged room 0 ∙ sym (rw (add-one levels) (node-charged room levels)) }
 
 -- a field that holds no piece, and one that does
-pub all-plain : {cs : Codes} {room low : ℕ} → cs ≡ nilC → SpendsAll cs room low room
-unfolding spend
+pub all-plain : {cs : Codes} {room levels : ℕ} → cs ≡ nilC → ChargesAll cs room levels room
+unfolding charge
 all-plain e = rw e (record { left = refl })
 
 pub child-left :
-    {v : Use} (c : Code) {room low r : ℕ} → v ≡ Child → SpendsAll (pieceBy v c nilC) room low r →
-    roomOf r ≡ spendOne c (roomOf room) (low + 1)
+    {v : Use} (c : Code) {room levels r : ℕ} → v ≡ Child → ChargesAll (pieceBy v c nilC) room levels r →
+    roomOf r ≡ chargeOne c (roomOf room) (levels + 1)
 unfolding pieceBy
 child-left c e s = rw e at (s .left)
 
 module _ {u : Use} (e : u ≡ Child) where
-  pub all-child : {xs : List ℕ} {p q room low r : ℕ} → Spends xs p q room low r → SpendsAll (pieceBy u (codeBelow xs p q) nilC) room low r
+  pub all-child : {xs : List ℕ} {p q room levels r : ℕ} → Charges xs p q room levels r → ChargesAll (pieceBy u (codeBelow xs p q) nilC) room levels r
   unfolding pieceBy
   all-child s = rw e (record { left = s .left })
 
   -- the piece of the field before once more
   pub all-again :
-      (self : ℕ → Code) {v : Use} {q i room low m r : ℕ} → v ≡ Child → q ≡ i → SpendsAll (pieceBy v (self q) nilC) room low m →
-      ((c : Code) (h : ℕ) → roomOf m ≡ spendOne c (roomOf room) h → roomOf r ≡ spendOne c (roomOf m) h) →
-      SpendsAll (pieceBy u (self i) nilC) m low r
+      (self : ℕ → Code) {v : Use} {q i room levels m r : ℕ} → v ≡ Child → q ≡ i → ChargesAll (pieceBy v (self q) nilC) room levels m →
+      ((c : Code) (h : ℕ) → roomOf m ≡ chargeOne c (roomOf room) h → roomOf r ≡ chargeOne c (roomOf m) h) →
+      ChargesAll (pieceBy u (self i) nilC) m levels r
   unfolding pieceBy
   all-again self {q = q} f g s a = rw (e, ← g) (record { left = a _ _ (child-left (self q) f s) })
 
 -- a field, and others behind it
 pub all-more :
-    (self : ℕ → Code) (u : Use) {q i room low m r : ℕ} {cs : Codes} → q ≡ i → SpendsAll (pieceBy u (self q) nilC) room low m →
-    SpendsAll cs m low r → SpendsAll (pieceBy u (self i) cs) room low r
-unfolding spend
-all-more self u {q} {room = room} {low} {cs = cs} e a s =
+    (self : ℕ → Code) (u : Use) {q i room levels m r : ℕ} {cs : Codes} → q ≡ i → ChargesAll (pieceBy u (self q) nilC) room levels m →
+    ChargesAll cs m levels r → ChargesAll (pieceBy u (self i) cs) room levels r
+unfolding charge
+all-more self u {q} {room = room} {levels} {cs = cs} e a s =
     rw (← e)
     (record {
       left =
           s .left
-          ∙ ap (λ (o : Option ℕ). spendAll cs o (low + 1)) (a .left)
-          ∙ by-piece u (self q) (λ f. spendAll cs (spendAll (f nilC) (roomOf room) (low + 1)) (low + 1) ≡ spendAll (f cs) (roomOf room) (low + 1)) refl
-          (sym (spend-more (self q) cs (roomOf room) (low + 1)));
+          ∙ ap (λ (o : Option ℕ). chargeAll cs o (levels + 1)) (a .left)
+          ∙ by-piece u (self q)
+          (λ f. chargeAll cs (chargeAll (f nilC) (roomOf room) (levels + 1)) (levels + 1) ≡ chargeAll (f cs) (roomOf room) (levels + 1))
+          refl (sym (charge-more (self q) cs (roomOf room) (levels + 1)));
     })
 
 -- ---- the code at a place, out of the most nodes and the greatest height
 
-pub whole-past : (xs : List ℕ) (p : ℕ) → length xs ≤ p → roomOf (maxNodes - 1) ≡ spend (codeAt xs p) maxNodes maxHeight
-unfolding spend spendLeaf spendBy roomOf maxNodes maxHeight
+pub whole-past : (xs : List ℕ) (p : ℕ) → length xs ≤ p → roomOf (maxNodes - 1) ≡ charge (codeAt xs p) maxNodes maxHeight
+unfolding charge chargeLeaf chargeBy roomOf maxNodes maxHeight
 whole-past xs p h = rw (past-read h .code)
 
 pub whole-under :
-    {xs : List ℕ} {p r : ℕ} → SpendsUnder xs p maxNodes (maxHeight - 2) r → roomOf r ≡ spend (codeAt xs p) maxNodes maxHeight
-unfolding spend roomOf maxNodes maxHeight
-whole-under {xs} {p} s = s .left ∙ sym (code-spent (codeAt xs p) (maxNodes + 1) (maxHeight - 1))
+    {xs : List ℕ} {p r : ℕ} → ChargesUnder xs p maxNodes (maxHeight - 2) r → roomOf r ≡ charge (codeAt xs p) maxNodes maxHeight
+unfolding charge roomOf maxNodes maxHeight
+whole-under {xs} {p} s = s .left ∙ sym (code-charged (codeAt xs p) (maxNodes + 1) (maxHeight - 1))

@@ -56,7 +56,7 @@ unfolding top nodesFrom
 emits-lit base k z h p q =
     record {
       number = add-one k;
-      low = h;
+      within = h;
       put =
           λ f.
           let a = put-node (node 0 0 0 0 z) (omega arith) p in
@@ -66,9 +66,9 @@ emits-lit base k z h p q =
     }
 
 module _ {c : Code} {z : ℤ} (e : c ≡ lit z) where
-  pub low-constant : (k : ℕ) → top k c < maxNodes → k + 1 < maxNodes
+  pub within-constant : (k : ℕ) → top k c < maxNodes → k + 1 < maxNodes
   unfolding top
-  low-constant k h = omega (arith, rw e at h)
+  within-constant k h = omega (arith, rw e at h)
 
   pub emits-constant : {y : ℤ} {base k r : ℕ} {l m : List ℕ} → y ≡ z → Emits (lit y) base k l m r → Emits c base k l m r
   emits-constant f p = rw (e, ← f) p
@@ -82,7 +82,7 @@ emits-variable {f = f} e g h p =
     rw (e, ← g)
     (record {
       number = refl;
-      low = rw e at h;
+      within = rw e at h;
       put = λ y. put-same (sym (one-record (node 1 f 0 0 (pos 0)))) (put-node (node 1 f 0 0 (pos 0)) y p);
     })
 
@@ -108,9 +108,9 @@ pub emits-plain : {u : Use} {c : Code} {f base k v : ℕ} {l : List ℕ} → (u 
 emits-plain {u} {c} {f} {k = k} h e = record { value = e ∙ plain u c nilC f (top k c) h .1; pieces = rw (plain u c nilC f 0 h .0) emits-none }
 
 module _ {u : Use} (c : Code) (e : u ≡ Child) where
-  pub child-low : (k : ℕ) → after k (pieceBy u c nilC) < maxNodes → top k c < maxNodes
+  pub within-child : (k : ℕ) → after k (pieceBy u c nilC) < maxNodes → top k c < maxNodes
   unfolding pieceBy top
-  child-low k h = omega (arith, rw e at h)
+  within-child k h = omega (arith, rw e at h)
 
   pub emits-child : {f base k r : ℕ} {l m : List ℕ} → Emits c base k l m r → EmitsField u c f base k l m r (r + 1)
   unfolding pieceBy fieldBy top nodesFrom
@@ -148,11 +148,11 @@ module _ (self : ℕ → Code) (u : Use) (cs : Codes) {q i : ℕ} (e : q ≡ i) 
 
   -- where the last node's number is low, so are those before it
   module _ (k : ℕ) (h : after k (pieceBy u (self i) cs) < maxNodes) where
-    pub low-first : after k (pieceBy u (self q) nilC) < maxNodes
-    low-first = rw e (omega (arith, after-piece u (self i) cs k, after-last cs (after k (pieceBy u (self i) nilC))))
+    pub within-first : after k (pieceBy u (self q) nilC) < maxNodes
+    within-first = rw e (omega (arith, after-piece u (self i) cs k, after-last cs (after k (pieceBy u (self i) nilC))))
 
-    pub low-rest : {n : ℕ} → n ≡ after k (pieceBy u (self q) nilC) → after n cs < maxNodes
-    low-rest f = rw (f, e) (omega (arith, after-piece u (self i) cs k))
+    pub within-rest : {n : ℕ} → n ≡ after k (pieceBy u (self q) nilC) → after n cs < maxNodes
+    within-rest f = rw (f, e) (omega (arith, after-piece u (self i) cs k))
 
 -- ---- a node over pieces
 
@@ -191,9 +191,9 @@ module _ {c : Code} {j x : ℕ} {w : Row} {self : ℕ → Code} (b : ByRow c j w
       let e = s .number ∙ sym (b .number k) in
       record {
         number = e;
-        low = omega (arith, e);
+        within = omega (arith, e);
         put = λ f. put-same (ap (records nodeBytes) (sym (b .nodes k))) (s .put f);
       }
 
-  pub row-low : (k : ℕ) → top k c < maxNodes → after k (rowPieces w self x) < maxNodes
-  row-low k h = rw (b .number k) at h
+  pub within-row : (k : ℕ) → top k c < maxNodes → after k (rowPieces w self x) < maxNodes
+  within-row k h = rw (b .number k) at h

@@ -25,10 +25,10 @@ use Rattle.file.proofs.Layouts.{inputLayout}
 use Rattle.file.proofs.FileLaws.{file-length}
 use Rattle.file.proofs.WritingLaws.{put-length, put-both, put-same, put-over}
 use Rattle.residual.specs.declared.Finish.the-variants as Finish
-use Rattle.residual.specs.Cells.{spend, roomOf}
+use Rattle.residual.specs.Cells.{charge, roomOf}
 use Rattle.residual.specs.AfterRun.{writtenBy, afterRun}
 use Rattle.residual.specs.Emission.{Counted, replyOf, outcome}
-use Rattle.residual.proofs.Spending.{Spent, left, spent, spend-fits, spend-size}
+use Rattle.residual.proofs.Charging.{Charged, left, charged, charge-fits, charge-size}
 
 -- ---- counts
 
@@ -36,8 +36,8 @@ top-count : {n r : ℕ} (c : Code) → n ≡ size c → r ≡ top 0 c → r + 1 
 top-count c e f = omega (arith, top-last c 0, nodes-size c 0)
 
 -- the last node's number is below the count of nodes
-pub top-low : {n : ℕ} (c : Code) → n ≡ size c → n ≤ maxNodes → top 0 c < maxNodes
-top-low c e h = omega (arith, top-last c 0, nodes-size c 0)
+pub top-within : {n : ℕ} (c : Code) → n ≡ size c → n ≤ maxNodes → top 0 c < maxNodes
+top-within c e h = omega (arith, top-last c 0, nodes-size c 0)
 
 pub fits-small : {n : ℕ} (c : Code) → n ≡ size c → fits c ≡ true → n ≤ maxNodes
 unfolding fits
@@ -45,17 +45,17 @@ fits-small c e h =
     omega (arith, leb-true (size c) maxNodes (and-both (leb (size c) maxNodes) (leb (codeHeight c) maxHeight) h .0))
 
 -- what the count of code leaves tells whether it fits a file, and its nodes
-pub counted : (room : ℕ) (c : Code) → roomOf room ≡ spend c maxNodes maxHeight → Counted c room
+pub counted : (room : ℕ) (c : Code) → roomOf room ≡ charge c maxNodes maxHeight → Counted c room
 unfolding roomOf
-counted zero c e = record { most = omega arith; over = λ z. spend-fits c (sym e); left = λ f. absurd (f refl) }
-counted (suc b) c e = go (subst⁻¹ (Spent (size c) (codeHeight c) maxNodes maxHeight) e (spent c maxNodes maxHeight))
+counted zero c e = record { most = omega arith; over = λ z. charge-fits c (sym e); left = λ f. absurd (f refl) }
+counted (suc b) c e = go (subst⁻¹ (Charged (size c) (codeHeight c) maxNodes maxHeight) e (charged c maxNodes maxHeight))
   where
-    go : Spent (size c) (codeHeight c) maxNodes maxHeight (some b) → Counted c (suc b)
+    go : Charged (size c) (codeHeight c) maxNodes maxHeight (some b) → Counted c (suc b)
     go (left q l) =
         record {
           most = omega arith;
           over = λ z. absurd (omega arith);
-          left = λ f. (omega arith, spend-size c b (sym e) .0);
+          left = λ f. (omega arith, charge-size c b (sym e) .0);
         }
 
 module _ {c : Code} {r : ℕ} (s : Counted c r) where

@@ -1,6 +1,6 @@
 pub mod Rows
 pub mod CellLaws
 pub mod CodeTrees
-pub mod Spending
+pub mod Charging
 pub mod Emission
 pub mod Finishing

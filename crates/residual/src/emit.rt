@@ -27,7 +27,7 @@ ghost use Rattle.script.specs.File.{nodeBytes, numbered};
 ghost use Rattle.file.specs.Written.{PutWhole};
 ghost use Rattle.residual.specs.Cells.{codeAt, codeBelow, pieceBy, rowPieces};
 ghost use Rattle.residual.specs.AfterRun.{afterRun};
-ghost use Rattle.residual.specs.Emission.{farthest, Emits, EmitsOver, EmitsField, rowNode, outcome};
+ghost use Rattle.residual.specs.Emission.{maxBase, Emits, EmitsOver, EmitsField, rowNode, outcome};
 
 // How a field is written: what stands in it, and the number of the next node.
 struct Field {
@@ -40,7 +40,7 @@ const ALL_NODES: u16 = MAX_NODES + 1;
 
 // One node as number k, where node 0 stands at base.
 fn emit_node(out: &mut [u8], base: u32, k: NodeNumber, kind: u8, a: u16, b: u16, c: u16, z: i32)
-    requires { ⌜ base ≤ farthest ⌝ }
+    requires { ⌜ base ≤ maxBase ⌝ }
     ensures { λ r. ⌜ PutWhole (now (out .entry)) (base + 13 * k .0) (nodeBytes (node kind a b c z)) (now (out .exit)) ⌝ }
 {
     writer::node_at(out, base + 13 * (k.0 as u32), kind, a, b, c, z)
@@ -48,7 +48,7 @@ fn emit_node(out: &mut [u8], base: u32, k: NodeNumber, kind: u8, a: u16, b: u16,
 
 // A constant node and its lift; the answer is the number of the last node, here and below.
 fn emit_constant(out: &mut [u8], base: u32, k: NodeNumber, z: i32) -> NodeNumber
-    requires { ⌜ (base ≤ farthest) × (k .0 + 1 < maxNodes) ⌝ }
+    requires { ⌜ (base ≤ maxBase) × (k .0 + 1 < maxNodes) ⌝ }
     ensures { λ r. ⌜ Emits (lit z) base (k .0) (now (out .entry)) (now (out .exit)) (r .0) ⌝ }
 {
     emit_node(out, base, k, 0, 0, 0, 0, z);
@@ -59,7 +59,7 @@ fn emit_constant(out: &mut [u8], base: u32, k: NodeNumber, z: i32) -> NodeNumber
 
 // The code of the cell x at p as nodes from number k on.
 fn emit(codes: &[u64], p: u16, x: u64, out: &mut [u8], base: u32, k: NodeNumber) -> NodeNumber
-    requires { ⌜ ((base ≤ farthest) × (top (k .0) (codeAt (now codes) p) < maxNodes)) × ((p ≤ length (now codes)) × (x ≡ getD (now codes) p 0)) ⌝ }
+    requires { ⌜ ((base ≤ maxBase) × (top (k .0) (codeAt (now codes) p) < maxNodes)) × ((p ≤ length (now codes)) × (x ≡ getD (now codes) p 0)) ⌝ }
     ensures { λ r. ⌜ Emits (codeAt (now (codes .entry)) p) base (k .0) (now (out .entry)) (now (out .exit)) (r .0) ⌝ }
 {
     match word::kind(x) {
@@ -84,7 +84,7 @@ fn emit_row(
     base: u32,
     k: NodeNumber,
 ) -> NodeNumber
-    requires { ⌜ ((base ≤ farthest) × (after (k .0) (rowPieces row (codeBelow (now codes) p) x) < maxNodes)) × (p ≤ length (now codes)) ⌝ }
+    requires { ⌜ ((base ≤ maxBase) × (after (k .0) (rowPieces row (codeBelow (now codes) p) x) < maxNodes)) × (p ≤ length (now codes)) ⌝ }
     ensures { λ r. ⌜ EmitsOver (rowPieces row (codeBelow (now (codes .entry)) p) x) (rowNode kind row (codeBelow (now (codes .entry)) p) x (k .0)) base (k .0) (now (out .entry)) (now (out .exit)) (r .0) ⌝ }
 {
     let u = row.0;
@@ -107,7 +107,7 @@ fn emit_field(
     base: u32,
     k: NodeNumber,
 ) -> Field
-    requires { ⌜ ((base ≤ farthest) × (after (k .0) (pieceBy u (codeBelow (now codes) p f) nilC) < maxNodes)) × (p ≤ length (now codes)) ⌝ }
+    requires { ⌜ ((base ≤ maxBase) × (after (k .0) (pieceBy u (codeBelow (now codes) p f) nilC) < maxNodes)) × (p ≤ length (now codes)) ⌝ }
     ensures { λ r. ⌜ EmitsField u (codeBelow (now (codes .entry)) p f) f base (k .0) (now (out .entry)) (now (out .exit)) (r .value) (r .next .0) ⌝ }
 {
     let Use::Child = u else {
@@ -125,7 +125,7 @@ fn emit_field(
 
 // The code at q if that is below p; else a constant. A variable is written without a call.
 fn emit_piece(codes: &[u64], p: u16, q: u16, out: &mut [u8], base: u32, k: NodeNumber) -> NodeNumber
-    requires { ⌜ ((base ≤ farthest) × (top (k .0) (codeBelow (now codes) p q) < maxNodes)) × (p ≤ length (now codes)) ⌝ }
+    requires { ⌜ ((base ≤ maxBase) × (top (k .0) (codeBelow (now codes) p q) < maxNodes)) × (p ≤ length (now codes)) ⌝ }
     ensures { λ r. ⌜ Emits (codeBelow (now (codes .entry)) p q) base (k .0) (now (out .entry)) (now (out .exit)) (r .0) ⌝ }
 {
     if p <= q {
@@ -142,7 +142,7 @@ fn emit_piece(codes: &[u64], p: u16, q: u16, out: &mut [u8], base: u32, k: NodeN
 
 // The code at p as nodes from number 0 on; past the end stands a constant.
 fn emit_root(codes: &[u64], p: u16, out: &mut [u8], base: u32) -> NodeNumber
-    requires { ⌜ (base ≤ farthest) × (top 0 (codeAt (now codes) p) < maxNodes) ⌝ }
+    requires { ⌜ (base ≤ maxBase) × (top 0 (codeAt (now codes) p) < maxNodes) ⌝ }
     ensures { λ r. ⌜ Emits (codeAt (now (codes .entry)) p) base 0 (now (out .entry)) (now (out .exit)) (r .0) ⌝ }
 {
     let i = p as usize;
@@ -185,7 +185,7 @@ fn finish_file(
 pub fn finish(codes: &[u64], p: u16, inputs: &[u16], count: u16, out: &mut [u8]) -> Finish
     ensures { λ r. ⌜ ((s : Script) (k : ℕ) → s .inputs ≡ numbered (inputsIn (now (inputs .entry))) 0 count → outcome r k (now (out .exit)) ≡ afterRun s (finished (codeAt (now (codes .entry)) p) k) (now (out .entry))) ⌝ }
 {
-    let room = size::spend(codes, p);
+    let room = size::charge(codes, p);
     if room == 0 {
         return Finish::Refused(Refusal {
             number: 26,

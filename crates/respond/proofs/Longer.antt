@@ -13,7 +13,7 @@ use borrow.Author.Tests.{le-leb}
 use Rattle.lambdamix.specs.Limits.{maxTypes, maxInputs, maxNodes, maxBytes}
 use Rattle.lambdamix.specs.Refusal.{Refusal, orElse, refusedUnless}
 use Rattle.lambdamix.proofs.Tests.{and-both}
-use Rattle.script.specs.Bytes.{byteAt, word16}
+use Rattle.script.specs.Bytes.{byteAt, number16}
 use Rattle.script.specs.File.{fileLength, nodeOffset, headTypes, headInputs, headNodes, scriptIn}
 use Rattle.script.specs.Refusals.{marked, headMarked, countsRight, fileRefusal, headRefusal}
 use Rattle.script.proofs.Sound.{in-limits}
@@ -94,8 +94,8 @@ module _ (bs : List ℕ) (long : maxBytes ≤ length bs) where
   unfolding maxBytes
   front-head = omega (arith, front-length)
 
-  word-same : (o : ℕ) → o < 8 → word16 front o ≡ word16 bs o
-  unfolding maxBytes word16 byteAt
+  word-same : (o : ℕ) → o < 8 → number16 front o ≡ number16 bs o
+  unfolding maxBytes number16 byteAt
   word-same o h = rw (getD-take maxBytes bs o 0 (omega arith), getD-take maxBytes bs (o + 1) 0 (omega arith))
 
   types-same : headTypes front ≡ headTypes bs

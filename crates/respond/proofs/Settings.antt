@@ -25,4 +25,5 @@ pub makes-given :
     storesSuffice programFuel before ≡ true →
     Makes Making n x (take (count - 0) (drop 0 ws)) programFuel before after file made r → MakesGiven n x rest file made r
 makes-given {before = before} zs rest e l d enough m =
-    record { stores = before; enough = enough; gives = (rw (first-given zs rest e l d) at m) .gives }
+    let k = rw (first-given zs rest e l d) at m in
+    record { stores = before; enough = enough; gives = rw (k .reply, k .output) }

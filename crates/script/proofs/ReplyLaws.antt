@@ -38,11 +38,11 @@ verdict-reply Verdict.Passed = refl
 verdict-reply (Verdict.Refused f) = refl
 
 -- Between what a verdict refuses and what its reply tells.
-pub tells-by : {v : Verdict} {p : Option Lambdamix.Refusal} → refusalOf v ≡ p → Tells p v
-tells-by {v} e = record { reply = verdict-reply v ∙ ap (λ p. replying p tt) e }
+pub refusal-tells : {v : Verdict} {p : Option Lambdamix.Refusal} → refusalOf v ≡ p → Tells p v
+refusal-tells {v} e = record { reply = verdict-reply v ∙ ap (λ p. replying p tt) e }
 
-pub told-by : {v : Verdict} {p : Option Lambdamix.Refusal} → Tells p v → refusalOf v ≡ p
-told-by {v} {p} t = one-refusal tt tt (refusalOf v) p (sym (verdict-reply v) ∙ t .reply)
+pub tells-refusal : {v : Verdict} {p : Option Lambdamix.Refusal} → Tells p v → refusalOf v ≡ p
+tells-refusal {v} {p} t = one-refusal tt tt (refusalOf v) p (sym (verdict-reply v) ∙ t .reply)
 
 -- The answers of reader, writer and listing are the cases that their replies tell.
 pub reading-reply : (p : Option Lambdamix.Refusal) (n : Counts) → readingReply (reading p n) ≡ replying p n

@@ -37,7 +37,7 @@ pub record Sound (s : Script) : Type 0 where
   pub inputs-fit : (j : ℕ) → j < length (s .inputs) → inputFits (λ k. getD (s .inputs) k 0) j ≡ true
   pub nodes-fit : (j : ℕ) → j < nodeCount s → nodeFits (length (s .types)) (length (s .inputs)) (nodeAt s) j ≡ true
   pub once : (j : ℕ) → j < root s → uses (s .nodes) j ≡ 1
-  pub low : (j : ℕ) → j < nodeCount s → height (tree s j) ≤ maxHeight
+  pub within-height : (j : ℕ) → j < nodeCount s → height (tree s j) ≤ maxHeight
 
 pub sound : (s : Script) → scriptRefusal s ≡ none → Sound s
 unfolding scriptRefusal contentRefusal contentOf nodeCount structureRefusal useRefusal usedOnce heightRefusal lowEnough
@@ -53,5 +53,5 @@ sound s e =
       inputs-fit = λ j w. passes _ _ (no-record _ _ _ inputs) j w;
       nodes-fit = λ j w. passes _ _ (no-record _ _ _ nodes) j w;
       once = λ j w. eqb-true _ 1 (passes _ _ (no-node _ _ used) j w);
-      low = λ j w. leb-true _ _ (passes _ _ (no-node _ _ (neither _ _ tall .0)) j w);
+      within-height = λ j w. leb-true _ _ (passes _ _ (no-node _ _ (neither _ _ tall .0)) j w);
     }

@@ -1,15 +1,17 @@
--- Laws of the table of uses: what holds of its thirteen rows, by one computed test each. Assumes nothing.
+-- Laws of the table of uses: what holds of its thirteen rows, by one computed test each; any number as a case of the table or past it.
+-- Assumes nothing.
 use Prim.Native.Nat.{ℕ, zero, suc, _≤_}
 use mathlib.Core.Path.{_≡_, refl, sym, ap}
-use mathlib.Core.Bool.{Bool, true, _&&_}
+use mathlib.Core.Bool.{Bool, true, false, _&&_}
 use mathlib.Core.List.{List, [], _∷_}
 use native.Mathlib.Omega.{arith}
 use lib.ListN.{getD, length, List·getD-eq-default, List·getD-map}
-use lib.Dec.{leb}
-use borrow.Author.Tests.{leb-true}
+use lib.Dec.{leb, ltb}
+use borrow.Author.Tests.{leb-true, ltb-true, ltb-false}
 use Rattle.lambdamix.specs.declared.Use.{Use}
 use Rattle.lambdamix.specs.declared.Use.the-variants.{Nothing}
 use Rattle.lambdamix.specs.Script.{Row, Node, rows, rowOf, blankRow}
+use Rattle.lambdamix.proofs.KindCases.{KindOf, kind-of}
 use Rattle.lambdamix.proofs.Tests.{and-both}
 use Rattle.script.specs.Kinds.{useOf, usesTable}
 use Rattle.script.specs.KindRows.{rowAt}
@@ -49,3 +51,22 @@ past-fields k j h = List·getD-eq-default (getD usesTable k []) Nothing (omega (
 pub row-uses : (nd : Node) → rowOf nd .uses ≡ getD usesTable (nd .kind) []
 unfolding rowOf usesTable
 row-uses nd = sym (List·getD-map (λ (r : Row). r .uses) rows (nd .kind) blankRow)
+
+-- ---- any number as a kind
+
+-- the kind of a row, or past the table
+pub data AnyKind (k : ℕ) : Type 0 where
+  in-table : KindOf k → AnyKind k
+  past-table : 13 ≤ k → AnyKind k
+
+pub any-kind : (k : ℕ) → AnyKind k
+any-kind k = go (ltb k 13) refl
+  where
+    go : (b : Bool) → ltb k 13 ≡ b → AnyKind k
+    go true e = in-table (kind-of k (ltb-true k 13 e))
+    go false e = past-table (ltb-false k 13 e)
+
+-- past the table every row is the blank one
+pub blank-row : {k : ℕ} → 13 ≤ k → getD rows k blankRow ≡ blankRow
+unfolding rows
+blank-row h = List·getD-eq-default rows blankRow h

@@ -19,7 +19,7 @@ use Rattle.script.specs.declared.Writing.the-variants as Writing
 use Rattle.script.specs.Tables.{over, roomRefusal, writtenOutput}
 use Rattle.script.specs.Replies.{replying, writingReply, WritesText}
 use Rattle.script.specs.Verdicts.{refusalOf, Fitted}
-use Rattle.script.proofs.Verdicts.{told-none}
+use Rattle.script.proofs.Verdicts.{passed-tells-none}
 
 module _ {text before after : List ℕ} where
   pub text-fits : {k : ℕ} → k ≡ length text → k ≤ length before → after ≡ over text before → Fitted text before after (Writing.Written k)
@@ -41,7 +41,7 @@ module _ {v : Verdict} {p : Option Lambdamix.Refusal} {text before : List ℕ} (
       {after : List ℕ} {r : Writing} → v ≡ Verdict.Passed → Fitted text before after r →
       WritesText (orElse p (roomRefusal text before)) text before after r
   unfolding orElse
-  writes-passed q a = let e = told-none told q in record { reply = rw e (a .reply); output = rw e (a .output) }
+  writes-passed q a = let e = passed-tells-none told q in record { reply = rw e (a .reply); output = rw e (a .output) }
 
   pub writes-refused :
       {f : Refusal} {r : Writing} → v ≡ Verdict.Refused f → r ≡ Writing.Refused f →

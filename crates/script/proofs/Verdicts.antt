@@ -9,14 +9,15 @@ use Rattle.script.specs.declared.Verdict.the-variants as Verdict
 use Rattle.script.specs.Verdicts.{refusalOf}
 
 module _ {v : Verdict} {p : Option Lambdamix.Refusal} (told : refusalOf v ≡ p) where
-  pub told-none : v ≡ Verdict.Passed → p ≡ none
+  pub passed-tells-none : v ≡ Verdict.Passed → p ≡ none
   unfolding refusalOf
-  told-none e = sym told ∙ ap refusalOf e
+  passed-tells-none e = sym told ∙ ap refusalOf e
 
-  pub told-first : (r : Option Lambdamix.Refusal) {f : Refusal} {w : Verdict} → v ≡ Verdict.Refused f → w ≡ Verdict.Refused f → refusalOf w ≡ orElse p r
+  pub refused-tells-first :
+      (r : Option Lambdamix.Refusal) {f : Refusal} {w : Verdict} → v ≡ Verdict.Refused f → w ≡ Verdict.Refused f → refusalOf w ≡ orElse p r
   unfolding refusalOf orElse
-  told-first r e h = rw (h, ← told, e)
+  refused-tells-first r e h = rw (h, ← told, e)
 
-  pub told-then : {q r : Option Lambdamix.Refusal} → v ≡ Verdict.Passed → q ≡ r → q ≡ orElse p r
+  pub passed-tells-next : {q r : Option Lambdamix.Refusal} → v ≡ Verdict.Passed → q ≡ r → q ≡ orElse p r
   unfolding refusalOf orElse
-  told-then e h = rw (← told, e) h
+  passed-tells-next e h = rw (← told, e) h

@@ -10,11 +10,11 @@ unfoldable pub byteAt : List ℕ → ℕ → ℕ
 byteAt bs i = getD bs i 0
 
 -- two bytes from place i on; past the end a byte is 0
-unfoldable pub word16 : List ℕ → ℕ → ℕ
-word16 bs i = byteAt bs i + 256 * byteAt bs (i + 1)
+unfoldable pub number16 : List ℕ → ℕ → ℕ
+number16 bs i = byteAt bs i + 256 * byteAt bs (i + 1)
 
-unfoldable pub word32 : List ℕ → ℕ → ℕ
-word32 bs i = word16 bs i + 65536 * word16 bs (i + 2)
+unfoldable pub number32 : List ℕ → ℕ → ℕ
+number32 bs i = number16 bs i + 65536 * number16 bs (i + 2)
 
 unfoldable pub signedBy : Bool → ℕ → ℤ
 signedBy true w = pos w

@@ -5,7 +5,7 @@ use mathlib.Core.List.{List, [], _∷_, _++_}
 use lib.ListN.{length}
 use Rattle.lambdamix.specs.Script.{Script, FunctionType, Node}
 use Rattle.lambdamix.specs.Text.{ascii}
-use Rattle.script.specs.Bytes.{byteAt, word16, word32, signed32, bits32, bytes16, bytes32}
+use Rattle.script.specs.Bytes.{byteAt, number16, number32, signed32, bits32, bytes16, bytes32}
 
 -- "`HD`: count of types, of inputs, of nodes, 2 bytes each. 8 bytes in all."
 unfoldable pub headBytes : Script → List ℕ
@@ -48,13 +48,13 @@ fileLength t i n = nodeOffset t i n
 
 -- the counts in a head
 unfoldable pub headTypes : List ℕ → ℕ
-headTypes bs = word16 bs 2
+headTypes bs = number16 bs 2
 
 unfoldable pub headInputs : List ℕ → ℕ
-headInputs bs = word16 bs 4
+headInputs bs = number16 bs 4
 
 unfoldable pub headNodes : List ℕ → ℕ
-headNodes bs = word16 bs 6
+headNodes bs = number16 bs 6
 
 -- n things by their numbers from j on
 unfoldable pub numbered : {A : Type 0} → (ℕ → A) → ℕ → ℕ → List A
@@ -62,19 +62,19 @@ numbered f j zero = []
 numbered f j (suc n) = f j ∷ numbered f (suc j) n
 
 unfoldable pub typeFrom : List ℕ → ℕ → FunctionType
-typeFrom bs o = record { parameter = word16 bs (o + 2); result = word16 bs (o + 4) }
+typeFrom bs o = record { parameter = number16 bs (o + 2); result = number16 bs (o + 4) }
 
 unfoldable pub inputFrom : List ℕ → ℕ → ℕ
-inputFrom bs o = word16 bs (o + 2)
+inputFrom bs o = number16 bs (o + 2)
 
 unfoldable pub nodeFrom : List ℕ → ℕ → Node
 nodeFrom bs o =
     record {
       kind = byteAt bs (o + 2);
-      a = word16 bs (o + 3);
-      b = word16 bs (o + 5);
-      c = word16 bs (o + 7);
-      value = signed32 (word32 bs (o + 9));
+      a = number16 bs (o + 3);
+      b = number16 bs (o + 5);
+      c = number16 bs (o + 7);
+      value = signed32 (number32 bs (o + 9));
     }
 
 -- t types, i inputs and n nodes, where they stand in a file

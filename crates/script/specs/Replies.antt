@@ -29,6 +29,18 @@ unfoldable pub replying : {A : Type 0} → Option Refusal → A → Reply A
 replying none a = record { number = 0; place = 0; carried = some a }
 replying (some f) a = record { number = f .number; place = f .place; carried = none }
 
+-- A form: how an answer tells a reply. By the enums below a reply is read of the answer; the structs for callers in C are made of it.
+abbrev pub Form : Type 0 → Type 0 → Type 1
+Form R Q = R → Q → Type 0
+
+abbrev pub telling : {R Q : Type 0} → (R → Q) → Form R Q
+telling f r q = f r ≡ q
+
+abbrev pub holding : {R Q : Type 0} → (Q → R) → Form R Q
+holding f r q = r ≡ f q
+
+-- ---- the enums
+
 -- each case of a verdict; a success carries nothing
 unfoldable pub verdictReply : Verdict → Reply (Unit {0})
 verdictReply Verdict.Passed = record { number = 0; place = 0; carried = some tt }
@@ -44,27 +56,41 @@ unfoldable pub writingReply : Writing → Reply ℕ
 writingReply (Writing.Written k) = record { number = 0; place = 0; carried = some k }
 writingReply (Writing.Refused f) = record { number = f .number; place = f .place; carried = none }
 
--- what a check promises: that this refuses, if anything
-pub record Tells (f : Option Refusal) (r : Verdict) : Type 0 where
-  pub reply : verdictReply r ≡ replying f tt
+-- ---- what the entries promise, in any form; under the plain names by the enums
+
+-- a check: that this refuses, if anything
+pub record TellsAs {R : Type 0} (form : Form R (Reply (Unit {0}))) (f : Option Refusal) (r : R) : Type 0 where
+  pub reply : form r (replying f tt)
+
+abbrev pub Tells : Option Refusal → Verdict → Type 0
+Tells f r = TellsAs (telling verdictReply) f r
 
 -- the counts in a file's head
 unfoldable pub headCounts : List ℕ → Counts
 headCounts bs = record { types = headTypes bs; inputs = headInputs bs; nodes = headNodes bs }
 
--- what the reader promises of a file and of the tables before and after
-pub record Reads (bs : List ℕ) (before after : Tables) (r : Reading) : Type 0 where
-  pub reply : readingReply r ≡ replying (readRefusal bs before) (headCounts bs)
+-- the reader, of a file and of the tables before and after
+pub record ReadsAs {R : Type 0} (form : Form R (Reply Counts)) (bs : List ℕ) (before after : Tables) (r : R) : Type 0 where
+  pub reply : form r (replying (readRefusal bs before) (headCounts bs))
   pub tables : after ≡ readTables (readRefusal bs before) bs before
 
--- what is promised where a text is to be written, of the answer and of the output before and after; f tells what refuses it
-pub record WritesText (f : Option Refusal) (text before after : List ℕ) (r : Writing) : Type 0 where
-  pub reply : writingReply r ≡ replying f (length text)
+abbrev pub Reads : List ℕ → Tables → Tables → Reading → Type 0
+Reads bs before after r = ReadsAs (telling readingReply) bs before after r
+
+-- where a text is to be written, of the answer and of the output before and after; f tells what refuses it
+pub record WritesTextAs {R : Type 0} (form : Form R (Reply ℕ)) (f : Option Refusal) (text before after : List ℕ) (r : R) : Type 0 where
+  pub reply : form r (replying f (length text))
   pub output : after ≡ writtenOutput f text before
 
--- what the writer promises of counts, tables and the output before and after; and that what it was lent has its columns' widths
-pub record Writes (n : Counts) (x : Tables) (before after : List ℕ) (r : Writing) : Type 0 where
+abbrev pub WritesText : Option Refusal → List ℕ → List ℕ → List ℕ → Writing → Type 0
+WritesText f text before after r = WritesTextAs (telling writingReply) f text before after r
+
+-- the writer, of counts, tables and the output before and after; and that what it was lent has its columns' widths
+pub record WritesAs {R : Type 0} (form : Form R (Reply ℕ)) (n : Counts) (x : Tables) (before after : List ℕ) (r : R) : Type 0 where
   pub text :
-      WritesText (writeRefusal (n .types) (n .inputs) (n .nodes) x before)
+      WritesTextAs form (writeRefusal (n .types) (n .inputs) (n .nodes) x before)
       (fileBytes (tablesScript (n .types) (n .inputs) (n .nodes) x)) before after r
   pub lent : LentTables (n .types) (n .inputs) (n .nodes) x
+
+abbrev pub Writes : Counts → Tables → List ℕ → List ℕ → Writing → Type 0
+Writes n x before after r = WritesAs (telling writingReply) n x before after r

@@ -7,15 +7,17 @@ use mathlib.Core.Option.{none}
 use lib.IntN.{ℤ}
 use Rattle.lambdamix.specs.declared.Mode.the-variants.{Making}
 use Rattle.script.specs.declared.Counts as Script
+use Rattle.script.specs.Replies.{holding}
 use Rattle.script.specs.Tables.{Tables}
 use Rattle.annotation.specs.Checks.{checkRefusal}
 use Rattle.residual.specs.AfterRun.{Reply, numberIn, stepsIn, nodesIn}
 use Rattle.machine.specs.Room.{Stores}
+use Rattle.specializer.specs.Entry.{MakesAs}
 use Rattle.specializer.specs.EntryDemand.{KeepsDemandThree}
 use Rattle.specializer.proofs.EntryDemand.{making-keeps}
 use Rattle.scriptmaker.specs.declared.Counts.{Counts}
 use Rattle.scriptmaker.specs.declared.MakeReply.{MakeReply}
-use Rattle.scriptmaker.specs.Calls.{countsOf, makeReply, Makes}
+use Rattle.scriptmaker.specs.Calls.{countsOf, makeReply}
 
 -- the struct has the reply's number, steps and nodes
 in-struct :
@@ -28,7 +30,7 @@ in-struct q h = h
 -- Theorem: what `scriptmaker_make` promises of a call on an accepted script keeps demand 3.
 pub make-keeps-demand-three :
     (n : Counts) (x : Tables) (zs : List ℤ) (fuel : ℕ) (before after : Stores) (out left : List ℕ) (r : MakeReply) →
-    Makes Making n x zs fuel before after out left r → checkRefusal (n .types) (n .inputs) (n .nodes) x ≡ none →
+    MakesAs (holding makeReply) Making (countsOf n) x zs fuel before after out left r → checkRefusal (n .types) (n .inputs) (n .nodes) x ≡ none →
     KeepsDemandThree (countsOf n) x zs fuel before (r .number) (r .steps) (r .nodes) left
 make-keeps-demand-three n x zs fuel before after out left r h c =
     rw (h .reply, h .output) (in-struct _ (making-keeps (countsOf n) x zs fuel before c (h .fit) out))

@@ -5,9 +5,10 @@ use crate::counted;
 use annotation::check::check;
 use script::Verdict;
 ghost use mathlib.Core.Path.{_≡_};
-ghost use Rattle.script.specs.Replies.{verdictReply};
+ghost use Rattle.script.specs.Replies.{holding, verdictReply, TellsAs};
 ghost use Rattle.script.specs.Tables.{tablesOf};
-ghost use Rattle.scriptmaker.specs.Calls.{checkReply, Checks};
+ghost use Rattle.annotation.specs.Checks.{checkRefusal};
+ghost use Rattle.scriptmaker.specs.Calls.{checkReply};
 
 fn reply(v: Verdict) -> CheckReply
     ensures { λ q. ⌜ q ≡ checkReply (verdictReply v) ⌝ }
@@ -37,7 +38,7 @@ pub extern "C" fn scriptmaker_check(
     c: &[u16],
     values: &[i32],
 ) -> CheckReply
-    ensures { λ r. ⌜ Checks n (tablesOf (now (parameters .entry)) (now (results .entry)) (now (inputs .entry)) (now (kinds .entry)) (now (a .entry)) (now (b .entry)) (now (c .entry)) (now (values .entry))) r ⌝ }
+    ensures { λ r. ⌜ TellsAs (holding checkReply) (checkRefusal (n .types) (n .inputs) (n .nodes) (tablesOf (now (parameters .entry)) (now (results .entry)) (now (inputs .entry)) (now (kinds .entry)) (now (a .entry)) (now (b .entry)) (now (c .entry)) (now (values .entry)))) r ⌝ }
 {
     reply(check(
         counted(n),

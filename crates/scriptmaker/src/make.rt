@@ -6,9 +6,10 @@ use lambdamix::Mode;
 use specializer::Reply;
 use specializer::make::make;
 ghost use mathlib.Core.Path.{_≡_};
+ghost use Rattle.script.specs.Replies.{holding};
 ghost use Rattle.script.specs.Tables.{tablesOf};
-ghost use Rattle.specializer.specs.Entry.{replied};
-ghost use Rattle.scriptmaker.specs.Calls.{makeReply, Makes};
+ghost use Rattle.specializer.specs.Entry.{replied, MakesAs};
+ghost use Rattle.scriptmaker.specs.Calls.{countsOf, makeReply};
 ghost use Rattle.machine.specs.Room.{stores};
 
 fn reply(r: Reply) -> MakeReply
@@ -48,7 +49,7 @@ pub extern "C" fn scriptmaker_make(
     codes: &mut [u64],
     out: &mut [u8],
 ) -> MakeReply
-    ensures { λ r. ⌜ Makes Mode.Making n (tablesOf (now (parameters .entry)) (now (results .entry)) (now (inputs .entry)) (now (kinds .entry)) (now (a .entry)) (now (b .entry)) (now (c .entry)) (now (values .entry)))
+    ensures { λ r. ⌜ MakesAs (holding makeReply) Mode.Making (countsOf n) (tablesOf (now (parameters .entry)) (now (results .entry)) (now (inputs .entry)) (now (kinds .entry)) (now (a .entry)) (now (b .entry)) (now (c .entry)) (now (values .entry)))
         (now (settings .entry)) fuel (stores (now (heap .entry)) (now (codes .entry))) (stores (now (heap .exit)) (now (codes .exit))) (now (out .entry)) (now (out .exit)) r ⌝ }
 {
     reply(make(
@@ -88,7 +89,7 @@ pub extern "C" fn scriptmaker_bare_run(
     codes: &mut [u64],
     out: &mut [u8],
 ) -> MakeReply
-    ensures { λ r. ⌜ Makes Mode.BareRun n (tablesOf (now (parameters .entry)) (now (results .entry)) (now (inputs .entry)) (now (kinds .entry)) (now (a .entry)) (now (b .entry)) (now (c .entry)) (now (values .entry)))
+    ensures { λ r. ⌜ MakesAs (holding makeReply) Mode.BareRun (countsOf n) (tablesOf (now (parameters .entry)) (now (results .entry)) (now (inputs .entry)) (now (kinds .entry)) (now (a .entry)) (now (b .entry)) (now (c .entry)) (now (values .entry)))
         (now (settings .entry)) fuel (stores (now (heap .entry)) (now (codes .entry))) (stores (now (heap .exit)) (now (codes .exit))) (now (out .entry)) (now (out .exit)) r ⌝ }
 {
     reply(make(

@@ -4,9 +4,9 @@ use crate::ReadReply;
 use reading::reader::read;
 use script::Reading;
 ghost use mathlib.Core.Path.{_≡_};
-ghost use Rattle.script.specs.Replies.{readingReply};
+ghost use Rattle.script.specs.Replies.{holding, readingReply, ReadsAs};
 ghost use Rattle.script.specs.Tables.{tablesOf};
-ghost use Rattle.scriptmaker.specs.Calls.{readReply, Reads};
+ghost use Rattle.scriptmaker.specs.Calls.{readReply};
 
 fn reply(r: Reading) -> ReadReply
     ensures { λ q. ⌜ q ≡ readReply (readingReply r) ⌝ }
@@ -46,7 +46,7 @@ pub extern "C" fn scriptmaker_read(
     c: &mut [u16],
     values: &mut [i32],
 ) -> ReadReply
-    ensures { λ r. ⌜ Reads (now (file .entry)) (tablesOf (now (parameters .entry)) (now (results .entry)) (now (inputs .entry)) (now (kinds .entry)) (now (a .entry)) (now (b .entry)) (now (c .entry)) (now (values .entry)))
+    ensures { λ r. ⌜ ReadsAs (holding readReply) (now (file .entry)) (tablesOf (now (parameters .entry)) (now (results .entry)) (now (inputs .entry)) (now (kinds .entry)) (now (a .entry)) (now (b .entry)) (now (c .entry)) (now (values .entry)))
         (tablesOf (now (parameters .exit)) (now (results .exit)) (now (inputs .exit)) (now (kinds .exit)) (now (a .exit)) (now (b .exit)) (now (c .exit)) (now (values .exit))) r ⌝ }
 {
     reply(read(file, parameters, results, inputs, kinds, a, b, c, values))

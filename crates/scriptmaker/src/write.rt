@@ -5,9 +5,9 @@ use crate::counted;
 use file::writer::write;
 use script::Writing;
 ghost use mathlib.Core.Path.{_≡_};
-ghost use Rattle.script.specs.Replies.{writingReply};
+ghost use Rattle.script.specs.Replies.{holding, writingReply, WritesAs};
 ghost use Rattle.script.specs.Tables.{tablesOf};
-ghost use Rattle.scriptmaker.specs.Calls.{writeReply, Writes};
+ghost use Rattle.scriptmaker.specs.Calls.{countsOf, writeReply};
 
 pub(crate) fn reply(r: Writing) -> WriteReply
     ensures { λ q. ⌜ q ≡ writeReply (writingReply r) ⌝ }
@@ -40,7 +40,7 @@ pub extern "C" fn scriptmaker_write(
     values: &[i32],
     out: &mut [u8],
 ) -> WriteReply
-    ensures { λ r. ⌜ Writes n (tablesOf (now (parameters .entry)) (now (results .entry)) (now (inputs .entry)) (now (kinds .entry)) (now (a .entry)) (now (b .entry)) (now (c .entry)) (now (values .entry))) (now (out .entry)) (now (out .exit)) r ⌝ }
+    ensures { λ r. ⌜ WritesAs (holding writeReply) (countsOf n) (tablesOf (now (parameters .entry)) (now (results .entry)) (now (inputs .entry)) (now (kinds .entry)) (now (a .entry)) (now (b .entry)) (now (c .entry)) (now (values .entry))) (now (out .entry)) (now (out .exit)) r ⌝ }
 {
     reply(write(
         counted(n),

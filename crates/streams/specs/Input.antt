@@ -7,7 +7,7 @@ use lib.IntN.{ℤ}
 use lib.ListN.{length, take, drop}
 use lib.Dec.{leb, eqb}
 use Rattle.lambdamix.specs.Refusal.{firstFailing}
-use Rattle.script.specs.Bytes.{word32, signed32}
+use Rattle.script.specs.Bytes.{number32, signed32}
 use Rattle.script.specs.File.{headTypes, headInputs, headNodes, fileLength, numbered}
 use Rattle.script.specs.Refusals.{countsRight, marked, headMarked, isNone}
 
@@ -37,7 +37,7 @@ unfoldable pub wholeSettings : List ℕ → Bool
 wholeSettings bs = eqb (length bs % 6) 0 && isNone (firstFailing (settingMarked bs) 0 (length bs / 6))
 
 unfoldable pub settingAt : List ℕ → ℕ → ℤ
-settingAt bs j = signed32 (word32 bs (6 * j + 2))
+settingAt bs j = signed32 (number32 bs (6 * j + 2))
 
 unfoldable pub settings : List ℕ → List ℤ
 settings bs = numbered (settingAt bs) 0 (length bs / 6)

@@ -30,7 +30,7 @@ use Rattle.script.specs.declared.Verdict.{Verdict}
 use Rattle.script.specs.declared.Verdict.the-variants as Verdict
 use Rattle.tables.specs.PackedTables.{HoldNodes, PackedNodes, PackedTables}
 use Rattle.script.proofs.RefusalLaws.{no-record, passes, neither, not-refused}
-use Rattle.script.proofs.Verdicts.{told-none}
+use Rattle.script.proofs.Verdicts.{passed-tells-none}
 use Rattle.script.proofs.Sound.{in-limits}
 use Rattle.script.proofs.Numbered.{length-numbered, row-at}
 use Rattle.script.proofs.Searching.{first-same}
@@ -124,7 +124,7 @@ module _ (t i n : ℕ) (ps rs is ks xs ys zs : List ℕ) (vs : List ℤ) where
       (k : PackedTables v n columns before ws) (h : min n maxNodes ≤ length before) where
     pub refused-by-structure : (r : Verdict) → Structured ws i n r → refusalOf r ≡ scriptRefusal (tablesScript t i n columns)
     unfolding refusalOf orElse
-    refused-by-structure r m = rw (script-of-tables t i n columns, ← p, q) (structure-after (told-none p q) r (k .nodes q h) m)
+    refused-by-structure r m = rw (script-of-tables t i n columns, ← p, q) (structure-after (passed-tells-none p q) r (k .nodes q h) m)
 
     pub packed-by-content : (r : Verdict) → PackedTables r n columns before ws
     packed-by-content r = record { nodes = λ e l. k .nodes q h }
@@ -139,7 +139,7 @@ pub packed-by-search :
     → refusalOf v ≡ orElse (refusedRecord 4 typeOffset p) (orElse (refusedRecord 4 (inputOffset t) q) (refusedRecord 5 (nodeOffset t i) (foundAt r)))
     → PackedNodes r n (rowNode x) after → PackedTables v n x before after
 packed-by-search t i p q r e k =
-    record { nodes = λ h l. k .all (no-record 5 (nodeOffset t i) (foundAt r) (neither _ _ (neither _ _ (told-none e h) .1) .1)) }
+    record { nodes = λ h l. k .all (no-record 5 (nodeOffset t i) (foundAt r) (neither _ _ (neither _ _ (passed-tells-none e h) .1) .1)) }
 
 -- columns that are long enough hold the nodes
 pub long-holds : (t i n ps rs is : ℕ) {ks xs ys zs : List ℕ} {vs : List ℤ} {b : Bool}

@@ -24,7 +24,7 @@ const CODES: usize = 2 * (MAX_FUEL as usize) + MAX_INPUTS;
 fn lent(record: &[u8], at: u16, most: usize) -> usize
     ensures { λ r. ⌜ r ≤ most ⌝ }
 {
-    let n = bytes::word32(record, at as usize) as usize;
+    let n = bytes::number32(record, at as usize) as usize;
     if most < n {
         return most;
     }
@@ -53,7 +53,7 @@ fn print_answer(k: usize, r: Reply, out: &[u8]) {
         Reply::Made(steps, nodes) => {
             let made = Counts {
                 types: 0,
-                inputs: bytes::word16(out, 4),
+                inputs: bytes::number16(out, 4),
                 nodes: nodes,
             };
             print_reply(k, 0, 0, steps, nodes);
@@ -100,7 +100,7 @@ fn try_split(
                 task_of(record),
                 &record[at..end],
                 &settings[first..given],
-                bytes::word32(record, 1),
+                bytes::number32(record, 1),
                 heap,
                 codes,
                 out,

@@ -44,7 +44,7 @@ fn next(kind: Kind, file: i32, k: usize) -> bool {
     if io::read_full(file, &mut head) < 4 {
         return false;
     }
-    let n = reading::bytes::word32(&head, 0) as usize;
+    let n = reading::bytes::number32(&head, 0) as usize;
     let mut space = io::large_buffer();
     try_next(kind, file, k, n, &mut space)
 }

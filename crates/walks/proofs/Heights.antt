@@ -20,7 +20,7 @@ use Rattle.script.specs.Kinds.{isChild}
 use Rattle.script.specs.declared.Row.{Row}
 use Rattle.script.specs.Words.{Columns, columnsIn}
 use Rattle.walks.specs.Walks.{keptIf, rowChildren, wordChildren, childrenAt, gathered, heightStep, heightAt, tooHighStep, tooHighAt, heightOver, Height}
-use Rattle.walks.specs.Walks.{low, high, HeightJoin, HeightNode, HeightOver}
+use Rattle.walks.specs.Walks.{within-limit, over-limit, HeightJoin, HeightNode, HeightOver}
 
 pub lowest-none : (r : Option ℕ) → lowest r none ≡ r
 unfolding lowest
@@ -86,11 +86,11 @@ module _ (x : Columns) (i : ℕ) where
 
   pub height-stray : {m : ℕ} → i ≤ m → Height 1 (below i 1 (heightAt x) m) (below i none (tooHighAt x) m)
   unfolding maxHeight
-  height-stray {m} h = rw (below-out i 1 (heightAt x) m h, below-out i none (tooHighAt x) m h) (low {h = 1} (omega arith))
+  height-stray {m} h = rw (below-out i 1 (heightAt x) m h, below-out i none (tooHighAt x) m h) (within-limit {h = 1} (omega arith))
 
   pub over-none : {ms : List ℕ} → ms ≡ [] → HeightOver x i ms 0
   unfolding heightOver gathered maxHeight
-  over-none e = rw e (low {h = 0} (omega arith))
+  over-none e = rw e (within-limit {h = 0} (omega arith))
 
   -- a field that is a child, and one that is none
   pub over-child :
@@ -133,30 +133,30 @@ module _ (x : Columns) (i : ℕ) where
 -- a height and what is no less
 after-height : {p q h g : ℕ} {t u : Option ℕ} → p ≤ q → p ≤ maxHeight → Height p h t → Height q g u → Height q (max h g) (lowest t u)
 unfolding lowest maxHeight
-after-height {h = h} {g = g} l k (low a) (low b) = let e : max h g ≡ g = omega arith in rw e (low b)
-after-height {h = h} {g = g} l k (low a) (high e b c) = high {h = max h g} e (omega arith) c
-after-height l k (high e a c) t = absurd (omega arith)
+after-height {h = h} {g = g} l k (within-limit a) (within-limit b) = let e : max h g ≡ g = omega arith in rw e (within-limit b)
+after-height {h = h} {g = g} l k (within-limit a) (over-limit e b c) = over-limit {h = max h g} e (omega arith) c
+after-height l k (over-limit e a c) t = absurd (omega arith)
 
 before-height : {p q h g : ℕ} {t u : Option ℕ} → q ≤ p → q ≤ maxHeight → Height p h t → Height q g u → Height p (max h g) (lowest t u)
 unfolding lowest maxHeight
-before-height {h = h} {g = g} l k (low a) (low b) = let e : max h g ≡ h = omega arith in rw e (low a)
-before-height {h = h} {g = g} l k (high e a c) (low b) = high {h = max h g} e (omega arith) c
-before-height l k t (high e b c) = absurd (omega arith)
+before-height {h = h} {g = g} l k (within-limit a) (within-limit b) = let e : max h g ≡ h = omega arith in rw e (within-limit a)
+before-height {h = h} {g = g} l k (over-limit e a c) (within-limit b) = over-limit {h = max h g} e (omega arith) c
+before-height l k t (over-limit e b c) = absurd (omega arith)
 
 -- two places
 first-place : {p q h g : ℕ} {t u : Option ℕ} → p < q → maxHeight < p → Height p h t → Height q g u → Height p (max h g) (lowest t u)
 unfolding maxHeight
-first-place l k (low a) t = absurd (omega arith)
-first-place l k (high e a c) (low b) = absurd (omega arith)
-first-place {h = h} {g = g} l k (high {j = i} e a c) (high {j = j} f b d) =
-    rw (lowest-first i j (omega arith)) (high {h = max h g} e (omega arith) c)
+first-place l k (within-limit a) t = absurd (omega arith)
+first-place l k (over-limit e a c) (within-limit b) = absurd (omega arith)
+first-place {h = h} {g = g} l k (over-limit {j = i} e a c) (over-limit {j = j} f b d) =
+    rw (lowest-first i j (omega arith)) (over-limit {h = max h g} e (omega arith) c)
 
 second-place : {p q h g : ℕ} {t u : Option ℕ} → q ≤ p → maxHeight < q → Height p h t → Height q g u → Height q (max h g) (lowest t u)
 unfolding maxHeight
-second-place l k t (low b) = absurd (omega arith)
-second-place l k (low a) (high f b d) = absurd (omega arith)
-second-place {h = h} {g = g} l k (high {j = i} e a c) (high {j = j} f b d) =
-    rw (lowest-second i j (omega arith)) (high {h = max h g} f (omega arith) d)
+second-place l k t (within-limit b) = absurd (omega arith)
+second-place l k (within-limit a) (over-limit f b d) = absurd (omega arith)
+second-place {h = h} {g = g} l k (over-limit {j = i} e a c) (over-limit {j = j} f b d) =
+    rw (lowest-second i j (omega arith)) (over-limit {h = max h g} f (omega arith) d)
 
 module _ {p q : ℕ} where
   pub join-second : p < q → p ≤ maxHeight → HeightJoin p q q
@@ -176,32 +176,33 @@ module _ {p q : ℕ} where
 grown :
     (i : ℕ) {p h : ℕ} {t : Option ℕ} → p < maxHeight → Height p h t → Height (p + 1) (suc h) (lowest (firstBy (leb (suc h) maxHeight) i none) t)
 unfolding maxHeight firstBy lowest
-grown i {h = h} l (low a) = rw (le-leb (suc h) maxHeight (omega arith), add-one h) (low {h = suc h} (omega arith))
-grown i l (high e a c) = absurd (omega arith)
+grown i {h = h} l (within-limit a) = rw (le-leb (suc h) maxHeight (omega arith), add-one h) (within-limit {h = suc h} (omega arith))
+grown i l (over-limit e a c) = absurd (omega arith)
 
 -- the first that is too high
 crossed :
     (i : ℕ) {p r h : ℕ} {t : Option ℕ} → maxHeight ≤ p → p ≤ maxHeight → r ≡ maxHeight + 1 + i → i < 65536 → Height p h t
     → Height r (suc h) (lowest (firstBy (leb (suc h) maxHeight) i none) t)
 unfolding maxHeight firstBy lowest
-crossed i {h = h} l k e b (low a) = rw (lt-leb (suc h) maxHeight (omega arith)) (high {h = suc h} e (omega arith) b)
-crossed i l k e b (high f a c) = absurd (omega arith)
+crossed i {h = h} l k e b (within-limit a) = rw (lt-leb (suc h) maxHeight (omega arith)) (over-limit {h = suc h} e (omega arith) b)
+crossed i l k e b (over-limit f a c) = absurd (omega arith)
 
 -- a place below that is lower, and one that is not
 passed-on :
     (i : ℕ) {p h : ℕ} {t : Option ℕ} → maxHeight < p → p < maxHeight + 1 + i → Height p h t
     → Height p (suc h) (lowest (firstBy (leb (suc h) maxHeight) i none) t)
 unfolding maxHeight firstBy
-passed-on i l k (low a) = absurd (omega arith)
-passed-on i {h = h} l k (high {j = j} f a c) = rw (lt-leb (suc h) maxHeight (omega arith), lowest-second i j (omega arith)) (high {h = suc h} f (omega arith) c)
+passed-on i l k (within-limit a) = absurd (omega arith)
+passed-on i {h = h} l k (over-limit {j = j} f a c) =
+    rw (lt-leb (suc h) maxHeight (omega arith), lowest-second i j (omega arith)) (over-limit {h = suc h} f (omega arith) c)
 
 kept-own :
     (i : ℕ) {p r h : ℕ} {t : Option ℕ} → maxHeight < p → maxHeight + 1 + i ≤ p → r ≡ maxHeight + 1 + i → i < 65536 → Height p h t
     → Height r (suc h) (lowest (firstBy (leb (suc h) maxHeight) i none) t)
 unfolding maxHeight firstBy
-kept-own i l k e b (low a) = absurd (omega arith)
-kept-own i {h = h} l k e b (high {j = j} f a c) =
-    rw (lt-leb (suc h) maxHeight (omega arith), lowest-first i j (omega arith)) (high {h = suc h} e (omega arith) b)
+kept-own i l k e b (within-limit a) = absurd (omega arith)
+kept-own i {h = h} l k e b (over-limit {j = j} f a c) =
+    rw (lt-leb (suc h) maxHeight (omega arith), lowest-first i j (omega arith)) (over-limit {h = suc h} e (omega arith) b)
 
 module _ {i p : ℕ} where
   pub node-low : p < maxHeight → HeightNode i p (p + 1)
@@ -220,10 +221,10 @@ module _ {i p : ℕ} where
 
 pub height-low : {r h : ℕ} {t : Option ℕ} → Height r h t → r ≤ maxHeight → (h ≤ maxHeight) × (t ≡ none)
 unfolding maxHeight
-height-low (low a) l = (a, refl)
-height-low (high e a c) l = absurd (omega arith)
+height-low (within-limit a) l = (a, refl)
+height-low (over-limit e a c) l = absurd (omega arith)
 
 pub height-high : {r h : ℕ} {t : Option ℕ} → Height r h t → maxHeight < r → t ≡ some (r - (maxHeight + 1))
 unfolding maxHeight
-height-high (low a) l = absurd (omega arith)
-height-high (high e a c) l = ap some (omega arith)
+height-high (within-limit a) l = absurd (omega arith)
+height-high (over-limit e a c) l = ap some (omega arith)

@@ -74,8 +74,8 @@ tooHighAt x = falling none (tooHighStep x)
 -- what a walk of heights answers in one number: a height within the limit, or the limit and one plus the lowest node that is
 -- too high
 pub data Height : ℕ → ℕ → Option ℕ → Type 0 where
-  low : {h : ℕ} → h ≤ maxHeight → Height h h none
-  high : {r h j : ℕ} → r ≡ maxHeight + 1 + j → maxHeight < h → j < 65536 → Height r h (some j)
+  within-limit : {h : ℕ} → h ≤ maxHeight → Height h h none
+  over-limit : {r h j : ℕ} → r ≡ maxHeight + 1 + j → maxHeight < h → j < 65536 → Height r h (some j)
 
 -- the answers of two walks in one, and a node over the answer of its children
 pub record HeightJoin (p q r : ℕ) : Type 0 where

@@ -261,20 +261,20 @@ fn scope_name(
     names: &[u16; MAX_HEIGHT],
     depth: usize,
     inputs: usize,
-    low: u16,
+    lowest: u16,
     i: NodeNumber,
     x: Name,
 ) -> u16
     requires { ⌜ (depth ≤ maxHeight) × (i .0 < 65535) ⌝ }
-    ensures { λ r. ⌜ Lower low (unboundName inputs (innermost (now (names .entry)) depth) (x .0) (i .0)) r ⌝ }
+    ensures { λ r. ⌜ Lower lowest (unboundName inputs (innermost (now (names .entry)) depth) (x .0) (i .0)) r ⌝ }
 {
     if (x.0 as usize) < inputs {
-        return low;
+        return lowest;
     }
     if is_bound(names, depth, x) {
-        return low;
+        return lowest;
     }
-    lower(low, i.0)
+    lower(lowest, i.0)
 }
 
 // A binder's name is put after those around it. How many names are around the children.
@@ -297,29 +297,29 @@ fn scope(
     inputs: usize,
     names: &mut [u16; MAX_HEIGHT],
     depth: usize,
-    low: u16,
+    lowest: u16,
     i: NodeNumber,
 ) -> u16
     requires { ⌜ (i .0 < 65535) × (maxHeight ≤ length (now names)) ⌝ }
     requires { ⌜ depth + heightAt (columnsIn (now (now nodes))) (i .0) ≤ maxHeight ⌝ }
-    ensures { λ r. ⌜ Scoped (unboundAt (columnsIn (now (now (nodes .entry)))) inputs (i .0) (innermost (now (names .entry)) depth)) depth low (now (names .entry)) (now (names .exit)) r ⌝ }
+    ensures { λ r. ⌜ Scoped (unboundAt (columnsIn (now (now (nodes .entry)))) inputs (i .0) (innermost (now (names .entry)) depth)) depth lowest (now (names .entry)) (now (names .exit)) r ⌝ }
 {
     let w = node_word(*nodes, i);
     match kind(w) {
-        0 => scope_fields(nodes, inputs, names, depth, low, i, w, row_of(0)),
-        1 => scope_fields(nodes, inputs, names, depth, low, i, w, row_of(1)),
-        2 => scope_fields(nodes, inputs, names, depth, low, i, w, row_of(2)),
-        3 => scope_fields(nodes, inputs, names, depth, low, i, w, row_of(3)),
-        4 => scope_fields(nodes, inputs, names, depth, low, i, w, row_of(4)),
-        5 => scope_fields(nodes, inputs, names, depth, low, i, w, row_of(5)),
-        6 => scope_fields(nodes, inputs, names, depth, low, i, w, row_of(6)),
-        7 => scope_fields(nodes, inputs, names, depth, low, i, w, row_of(7)),
-        8 => scope_fields(nodes, inputs, names, depth, low, i, w, row_of(8)),
-        9 => scope_fields(nodes, inputs, names, depth, low, i, w, row_of(9)),
-        10 => scope_fields(nodes, inputs, names, depth, low, i, w, row_of(10)),
-        11 => scope_fields(nodes, inputs, names, depth, low, i, w, row_of(11)),
-        12 => scope_fields(nodes, inputs, names, depth, low, i, w, row_of(12)),
-        _ => low,
+        0 => scope_fields(nodes, inputs, names, depth, lowest, i, w, row_of(0)),
+        1 => scope_fields(nodes, inputs, names, depth, lowest, i, w, row_of(1)),
+        2 => scope_fields(nodes, inputs, names, depth, lowest, i, w, row_of(2)),
+        3 => scope_fields(nodes, inputs, names, depth, lowest, i, w, row_of(3)),
+        4 => scope_fields(nodes, inputs, names, depth, lowest, i, w, row_of(4)),
+        5 => scope_fields(nodes, inputs, names, depth, lowest, i, w, row_of(5)),
+        6 => scope_fields(nodes, inputs, names, depth, lowest, i, w, row_of(6)),
+        7 => scope_fields(nodes, inputs, names, depth, lowest, i, w, row_of(7)),
+        8 => scope_fields(nodes, inputs, names, depth, lowest, i, w, row_of(8)),
+        9 => scope_fields(nodes, inputs, names, depth, lowest, i, w, row_of(9)),
+        10 => scope_fields(nodes, inputs, names, depth, lowest, i, w, row_of(10)),
+        11 => scope_fields(nodes, inputs, names, depth, lowest, i, w, row_of(11)),
+        12 => scope_fields(nodes, inputs, names, depth, lowest, i, w, row_of(12)),
+        _ => lowest,
     }
 }
 
@@ -329,21 +329,21 @@ fn scope_fields(
     inputs: usize,
     names: &mut [u16; MAX_HEIGHT],
     depth: usize,
-    low: u16,
+    lowest: u16,
     i: NodeNumber,
     w: u64,
     row: Row,
 ) -> u16
     requires { ⌜ (i .0 < 65535) × (maxHeight ≤ length (now names)) ⌝ }
     requires { ⌜ depth + 1 + heightOver (columnsIn (now (now nodes))) (i .0) (rowChildren row (wordA w) (wordB w) (wordC w)) ≤ maxHeight ⌝ }
-    ensures { λ r. ⌜ Scoped (unboundBy inputs (unboundBelow (columnsIn (now (now (nodes .entry)))) inputs (i .0)) (i .0) (innermost (now (names .entry)) depth) row (wordA w) (wordB w) (wordC w)) depth low (now (names .entry)) (now (names .exit)) r ⌝ }
+    ensures { λ r. ⌜ Scoped (unboundBy inputs (unboundBelow (columnsIn (now (now (nodes .entry)))) inputs (i .0)) (i .0) (innermost (now (names .entry)) depth) row (wordA w) (wordB w) (wordC w)) depth lowest (now (names .entry)) (now (names .exit)) r ⌝ }
 {
     let u = row.0;
     let v = row.1;
     let t = row.2;
     let a = field_a(w);
     let inner = put_binder(names, depth, u, a);
-    let p = scope_field(nodes, inputs, names, inner, low, i, u, a);
+    let p = scope_field(nodes, inputs, names, inner, lowest, i, u, a);
     let q = scope_field(nodes, inputs, names, inner, p, i, v, field_b(w));
     scope_field(nodes, inputs, names, inner, q, i, t, field_c(w))
 }
@@ -354,22 +354,22 @@ fn scope_field(
     inputs: usize,
     names: &mut [u16; MAX_HEIGHT],
     depth: usize,
-    low: u16,
+    lowest: u16,
     i: NodeNumber,
     u: Use,
     f: u16,
 ) -> u16
     requires { ⌜ (i .0 < 65535) × (maxHeight ≤ length (now names)) ⌝ }
     requires { ⌜ depth + heightOver (columnsIn (now (now nodes))) (i .0) (keptIf (isChild u) f []) ≤ maxHeight ⌝ }
-    ensures { λ r. ⌜ Scoped (unboundField inputs (unboundBelow (columnsIn (now (now (nodes .entry)))) inputs (i .0)) (i .0) (innermost (now (names .entry)) depth) u f) depth low (now (names .entry)) (now (names .exit)) r ⌝ }
+    ensures { λ r. ⌜ Scoped (unboundField inputs (unboundBelow (columnsIn (now (now (nodes .entry)))) inputs (i .0)) (i .0) (innermost (now (names .entry)) depth) u f) depth lowest (now (names .entry)) (now (names .exit)) r ⌝ }
 {
     match u {
-        Use::Name => scope_name(names, depth, inputs, low, i, Name(f)),
-        Use::Child => scope_child(nodes, inputs, names, depth, low, i, NodeNumber(f)),
-        Use::Nothing => low,
-        Use::Binder => low,
-        Use::ParameterType => low,
-        Use::Operation => low,
+        Use::Name => scope_name(names, depth, inputs, lowest, i, Name(f)),
+        Use::Child => scope_child(nodes, inputs, names, depth, lowest, i, NodeNumber(f)),
+        Use::Nothing => lowest,
+        Use::Binder => lowest,
+        Use::ParameterType => lowest,
+        Use::Operation => lowest,
     }
 }
 
@@ -379,18 +379,18 @@ fn scope_child(
     inputs: usize,
     names: &mut [u16; MAX_HEIGHT],
     depth: usize,
-    low: u16,
+    lowest: u16,
     i: NodeNumber,
     m: NodeNumber,
 ) -> u16
     requires { ⌜ (i .0 < 65535) × (maxHeight ≤ length (now names)) ⌝ }
     requires { ⌜ depth + below (i .0) 1 (heightAt (columnsIn (now (now nodes)))) (m .0) ≤ maxHeight ⌝ }
-    ensures { λ r. ⌜ Scoped (unboundBelow (columnsIn (now (now (nodes .entry)))) inputs (i .0) (m .0) (innermost (now (names .entry)) depth)) depth low (now (names .entry)) (now (names .exit)) r ⌝ }
+    ensures { λ r. ⌜ Scoped (unboundBelow (columnsIn (now (now (nodes .entry)))) inputs (i .0) (m .0) (innermost (now (names .entry)) depth)) depth lowest (now (names .entry)) (now (names .exit)) r ⌝ }
 {
     if m.0 < i.0 {
-        return scope(nodes, inputs, names, depth, low, m);
+        return scope(nodes, inputs, names, depth, lowest, m);
     }
-    low
+    lowest
 }
 
 // Refusal 8, after 7.

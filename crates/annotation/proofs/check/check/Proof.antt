@@ -3,7 +3,6 @@ use borrow.Author.Needs.{needs}
 use native.Mathlib.Omega.{arith}
 use lib.ListN.{length-replicate}
 use Rattle.lambdamix.specs.Limits.{maxNodes}
-use Rattle.script.proofs.ReplyLaws.{tells-by}
 use Rattle.annotation.proofs.check.check.Statement.{statement}
 use Rattle.annotation.proofs.check.check.Tie as tie
 
@@ -11,14 +10,14 @@ check-in-requires : tie.Need-check-in-requires
 check-in-requires c κs = simp length-replicate (omega (arith, c .before .if1 .taken))
 
 returns : tie.Need-returns
-returns c = tells-by (c .before .check-in .ensures)
+returns c = c .before .check-in .ensures
 
 check-in-requires-2 : tie.Need-check-in-requires-2
 unfolding maxNodes
 check-in-requires-2 c κs = simp length-replicate (omega arith)
 
 returns-2 : tie.Need-returns-2
-returns-2 c = tells-by (c .before .check-in2 .ensures)
+returns-2 c = c .before .check-in2 .ensures
 
 pub check-spec : {M : Type 1} → statement M
 check-spec = tie.close (tie.spec (λ c. search needs) (λ c. search needs) check-in-requires returns (λ c. search needs) check-in-requires-2 returns-2)

@@ -1,25 +1,28 @@
 -- `annotation::check::check_in` meets its contract: by the verdict on the tables, whose nodes are then in the words. Assumes nothing.
 use borrow.Author.Needs.{needs}
 use Rattle.script.specs.Tables.{rowNode}
-use Rattle.script.proofs.ReplyLaws.{told-by}
-use Rattle.script.proofs.Verdicts.{told-none, told-first, told-then}
+use Rattle.script.proofs.ReplyLaws.{refusal-tells, tells-refusal}
+use Rattle.script.proofs.Verdicts.{passed-tells-none, refused-tells-first, passed-tells-next}
 use Rattle.annotation.specs.Checks.{checkRefusal}
 use Rattle.annotation.proofs.check.check_in.Statement.{statement}
 use Rattle.annotation.proofs.check.check_in.Tie as tie
 
 returns : tie.Need-returns
 unfolding checkRefusal
-returns c = told-first (told-by (c .before .before .before .before .before .tables-packed .ensures .0)) _ (c .before .f .given .1) (search needs)
+returns c =
+    let tables = tells-refusal (c .before .before .before .before .before .tables-packed .ensures .0) in
+    refusal-tells (refused-tells-first tables _ (c .before .f .given .1) (search needs))
 
 returns-2 : tie.Need-returns-2
 unfolding checkRefusal rowNode
 returns-2 c =
     let at-tables-packed = c .before .before .before .before .before .before .tables-packed in
-    let at-enum-told = c .before .before .enum-told in
     let at-pre = c .before .before .before .before .before .before .before .before .before .before .before .before .before .before .before
     .before .pre in
-    let p = at-tables-packed in let passed = at-enum-told .given .1 in told-then (told-by (p .ensures .0)) passed (c .annotation-refusal
-    .ensures .reply _ _ _ _ _ (told-none (told-by (p .ensures .0)) passed) (p .ensures .1 .nodes passed (at-pre)))
+    let tables = tells-refusal (at-tables-packed .ensures .0) in
+    let passed = c .before .before .enum-told .given .1 in
+    let annotated = c .annotation-refusal .ensures .reply _ _ _ _ _ (passed-tells-none tables passed) (at-tables-packed .ensures .1 .nodes passed at-pre) in
+    refusal-tells (passed-tells-next tables passed (tells-refusal annotated))
 
 pub check-in-spec : {M : Type 1} → statement M
 check-in-spec =

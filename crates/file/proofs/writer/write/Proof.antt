@@ -2,7 +2,7 @@
 use borrow.Author.Needs.{needs}
 use mathlib.Core.Path.{refl}
 use Rattle.script.specs.Tables.{writeRefusal}
-use Rattle.script.proofs.ReplyLaws.{told-by}
+use Rattle.script.proofs.ReplyLaws.{tells-refusal}
 use Rattle.script.proofs.Texts.{writes-passed, writes-refused}
 use Rattle.file.proofs.writer.write.Statement.{statement}
 use Rattle.file.proofs.writer.write.Tie as tie
@@ -15,7 +15,7 @@ returns c =
     let at-fit = c .before .before .fit in
     let at-tables-fit = c .before .before .before .before .before .before .before .tables-fit in
     record {
-      text = writes-passed (told-by (at-tables-refusal .ensures)) (at-enum-told .given .1) (at-fit .ensures);
+      text = writes-passed (tells-refusal (at-tables-refusal .ensures)) (at-enum-told .given .1) (at-fit .ensures);
       lent = at-tables-fit
           .ensures;
     }
@@ -25,7 +25,7 @@ unfolding writeRefusal
 returns-2 c =
     let at-tables-refusal = c .before .before .before .tables-refusal in
     let at-tables-fit = c .before .before .before .before .tables-fit in
-    record { text = writes-refused (told-by (at-tables-refusal .ensures)) (c .before .f .given .1) refl; lent = at-tables-fit .ensures }
+    record { text = writes-refused (tells-refusal (at-tables-refusal .ensures)) (c .before .f .given .1) refl; lent = at-tables-fit .ensures }
 
 pub write-spec : {M : Type 1} → statement M
 write-spec =

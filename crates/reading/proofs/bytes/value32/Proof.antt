@@ -8,7 +8,7 @@ use Rattle.reading.proofs.bytes.value32.Tie as tie
 
 returns : tie.Need-returns
 returns c =
-    toZ-ofZ {w = w32} (record { sfits = c .signed .ok }) ∙ c .signed .ensures ∙ ap signed32 (c .before .word32 .ensures)
+    toZ-ofZ {w = w32} (record { sfits = c .signed .ok }) ∙ c .signed .ensures ∙ ap signed32 (c .before .number32 .ensures)
 
 pub value32-spec : {M : Type 1} → statement M
 value32-spec = tie.close (tie.spec (λ c κs. tt) (λ c κs. tt) returns)

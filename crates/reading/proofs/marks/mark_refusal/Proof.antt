@@ -1,7 +1,7 @@
 -- `reading::marks::mark_refusal` meets its contract: three searches, one after the other. Assumes nothing.
 use borrow.Author.Needs.{needs}
 use Rattle.script.specs.Refusals.{markRefusal}
-use Rattle.script.proofs.Verdicts.{told-first, told-then}
+use Rattle.script.proofs.Verdicts.{refused-tells-first, passed-tells-next}
 use Rattle.reading.proofs.MarkLaws.{type-marks, input-marks, node-marks}
 use Rattle.reading.proofs.marks.mark_refusal.Statement.{statement}
 use Rattle.reading.proofs.marks.mark_refusal.Tie as tie
@@ -11,7 +11,7 @@ unfolding markRefusal
 returns c =
     let at-type-offset = c .before .before .before .before .type-offset in
     let at-unmarked = c .before .before .before .unmarked in
-    told-first (type-marks _ _ _ (at-type-offset .ensures) (at-unmarked .ensures)) _ (c .before .f .given .1) (search needs)
+    refused-tells-first (type-marks _ _ _ (at-type-offset .ensures) (at-unmarked .ensures)) _ (c .before .f .given .1) (search needs)
 
 returns-2 : tie.Need-returns-2
 unfolding markRefusal
@@ -21,7 +21,7 @@ returns-2 c =
     let at-enum-told = c .before .before .before .before .before .enum-told in
     let at-input-offset = c .before .before .before .before .input-offset in
     let at-unmarked2 = c .before .before .before .unmarked2 in
-    told-then (type-marks _ _ _ (at-type-offset .ensures) (at-unmarked .ensures)) (at-enum-told .given .1) (told-first (input-marks _ _ _ _
+    passed-tells-next (type-marks _ _ _ (at-type-offset .ensures) (at-unmarked .ensures)) (at-enum-told .given .1) (refused-tells-first (input-marks _ _ _ _
     (at-input-offset .ensures) (at-unmarked2 .ensures)) _ (c .before .f2 .given .1) (search needs))
 
 returns-3 : tie.Need-returns-3
@@ -33,7 +33,7 @@ returns-3 c =
     let at-input-offset = c .before .before .before .before .before .input-offset in
     let at-unmarked2 = c .before .before .before .before .unmarked2 in
     let at-enum-told2 = c .before .before .enum-told2 in
-    told-then (type-marks _ _ _ (at-type-offset .ensures) (at-unmarked .ensures)) (at-enum-told .given .1) (told-then (input-marks _ _ _ _
+    passed-tells-next (type-marks _ _ _ (at-type-offset .ensures) (at-unmarked .ensures)) (at-enum-told .given .1) (passed-tells-next (input-marks _ _ _ _
     (at-input-offset .ensures) (at-unmarked2 .ensures)) (at-enum-told2 .given .1) (node-marks _ _ _ _ _ (c .before .node-offset .ensures)
     (c .unmarked3 .ensures)))
 

@@ -1,7 +1,7 @@
 -- `reading::reader::body_refusal` meets its contract: its own columns hold the file's script. Assumes nothing.
 use mathlib.Core.Path.{refl, sym}
 use Rattle.lambdamix.specs.Limits.{maxTypes, maxInputs, maxNodes}
-use Rattle.script.proofs.ReplyLaws.{told-by}
+use Rattle.script.proofs.ReplyLaws.{tells-refusal}
 use Rattle.reading.proofs.ReaderLaws.{own-fits, body-by-tables}
 use Rattle.reading.proofs.reader.body_refusal.Statement.{statement}
 use Rattle.reading.proofs.reader.body_refusal.Tie as tie
@@ -26,7 +26,7 @@ returns c =
     .before .before .before .before .before .before .before .before .before .before .before .before .before .mark-refusal in
     let k = at-fill-tables .kept .1 .1 in let n = at-head-counts .ensures in body-by-tables _ n (at-pre) _ (at-fill-tables .ensures)
     (own-fits _ _ n (at-pre) (k .0) (k .1 .0) (k .1 .1 .0) (k .1 .1 .1 .0) (k .1 .1 .1 .1 .0) (k .1 .1 .1 .1 .1 .0) (k .1 .1 .1 .1 .1 .1
-    .0) (k .1 .1 .1 .1 .1 .1 .1 .0)) (at-mark-refusal .ensures) (told-by (c .before .tables-refusal .ensures)) (c .marks-first .ensures)
+    .0) (k .1 .1 .1 .1 .1 .1 .1 .0)) (at-mark-refusal .ensures) (tells-refusal (c .before .tables-refusal .ensures)) (c .marks-first .ensures)
 
 pub body-refusal-spec : {M : Type 1} → statement M
 body-refusal-spec =

@@ -6,7 +6,7 @@ use Rattle.reading.proofs.reader.head_counts.Tie as tie
 
 returns : tie.Need-returns
 unfolding headCounts headTypes headInputs headNodes
-returns c = rw (c .before .before .word16 .ensures, c .before .word162 .ensures, c .word163 .ensures)
+returns c = rw (c .before .before .number16 .ensures, c .before .number162 .ensures, c .number163 .ensures)
 
 pub head-counts-spec : {M : Type 1} → statement M
 head-counts-spec = tie.close (tie.spec (λ c κs. tt) (λ c κs. tt) (λ c κs. tt) returns)

@@ -15,11 +15,11 @@ use Rattle.lambdamix.specs.Code.{after}
 use Rattle.script.specs.declared.Row.{Row}
 use Rattle.script.specs.KindRows.{rowAt}
 use Rattle.residual.specs.Cells.{codeAt, codeBelow, rowPieces}
-use Rattle.residual.specs.Emission.{farthest, Emits, EmitsOver, rowNode}
+use Rattle.residual.specs.Emission.{maxBase, Emits, EmitsOver, rowNode}
 use Rattle.residual.proofs.Rows.{not-child, HasRow, ByRow, variable, function, application, fix, choice, operation}
 use Rattle.residual.proofs.CellLaws.{below-there, below-none, is-variable, is-row, is-constant}
-use Rattle.residual.proofs.Emission.{low-constant, emits-constant, emits-variable, emits-plain, child-low, emits-child}
-use Rattle.residual.proofs.Emission.{low-first, low-rest, emits-fields, emits-row, row-low}
+use Rattle.residual.proofs.Emission.{within-constant, emits-constant, emits-variable, emits-plain, within-child, emits-child}
+use Rattle.residual.proofs.Emission.{within-first, within-rest, emits-fields, emits-row, within-row}
 use Rattle.residual.proofs.emit.emit.Reads as emit
 use Rattle.residual.proofs.emit.emit.Kinds as emit-kinds
 use Rattle.residual.proofs.emit.+emit+emit_field+emit_piece+emit_row.Lts-emit as emit-lts
@@ -147,11 +147,11 @@ module _
 
     row-requires :
         (4 * a .p + 2 < t)
-        × (((a .base ≤ farthest) × (after (a .k .0) (rowPieces r (codeBelow (a .codes .now) (a .p)) (a .x)) < maxNodes))
+        × (((a .base ≤ maxBase) × (after (a .k .0) (rowPieces r (codeBelow (a .codes .now) (a .p)) (a .x)) < maxNodes))
         × (a .p ≤ length (a .codes .now)))
     row-requires =
         let p = m .before .before .before .pre in
-        (omega (arith, p .0), ((p .1 .0 .0, row-low by-row (a .k .0) (p .1 .0 .1)), p .1 .1 .0))
+        (omega (arith, p .0), ((p .1 .0 .0, within-row by-row (a .k .0) (p .1 .0 .1)), p .1 .1 .0))
 
     row-emitted :
         {n : ℕ} {out after′ : List ℕ} →
@@ -164,7 +164,7 @@ constant-requires : (t : ℕ) → emit-lts.Need-emit-constant-requires (emit-cal
 constant-requires t c κs =
     let m = c .before .before in
     let p = m .before .before .before .before .pre in
-    (p .1 .0 .0, low-constant (is-constant (record { word = p .1 .1 .1; kind = m .before .kind .ensures }) (m .match .rest) .code) _ (p .1 .0 .1))
+    (p .1 .0 .0, within-constant (is-constant (record { word = p .1 .1 .1; kind = m .before .kind .ensures }) (m .match .rest) .code) _ (p .1 .0 .1))
 
 constant-returns : (t : ℕ) → emit-lts.Need-returns-7 (emit-calls t) (emit-at t) emit.Post
 constant-returns t c =
@@ -181,11 +181,11 @@ plain-returns t c = emits-plain (not-child (c .before .before .before .before .a
 child-requires : (t : ℕ) → emit-field-lts.Need-emit-piece-requires (emit-field-calls t) (emit-field-at t) emit-field.Post
 child-requires t c κs =
     let p = c .before .before .before .before .before .pre in
-    (omega (arith, p .0), ((p .1 .0 .0, child-low _ (c .before .enum-told .given .1) _ (p .1 .0 .1)), p .1 .1))
+    (omega (arith, p .0), ((p .1 .0 .0, within-child _ (c .before .enum-told .given .1) _ (p .1 .0 .1)), p .1 .1))
 
 child-next : (t : ℕ) → emit-field-lts.Need-add-t12 (emit-field-calls t) (emit-field-at t) emit-field.Post
 unfolding maxNodes
-child-next t c = omega (arith, c .before .before .before .emit-piece .ensures .low)
+child-next t c = omega (arith, c .before .before .before .emit-piece .ensures .within)
 
 child-returns : (t : ℕ) → emit-field-lts.Need-returns-2 (emit-field-calls t) (emit-field-at t) emit-field.Post
 child-returns t c = emits-child _ (c .before .before .before .before .before .enum-told .given .1) (c .before .before .before .emit-piece .ensures)
@@ -196,7 +196,7 @@ piece-room : (t : ℕ) → emit-piece-lts.Need-emit-constant-requires (emit-piec
 piece-room t c κs =
     let s = c .before .before .before .before in
     let a = s .args in
-    (s .pre .1 .0 .0, low-constant (below-none (a .codes .now) (a .p) (a .q) (c .before .if1 .taken)) _ (s .pre .1 .0 .1))
+    (s .pre .1 .0 .0, within-constant (below-none (a .codes .now) (a .p) (a .q) (c .before .if1 .taken)) _ (s .pre .1 .0 .1))
 
 piece-constant : (t : ℕ) → emit-piece-lts.Need-returns (emit-piece-calls t) (emit-piece-at t) emit-piece.Post
 piece-constant t c =
@@ -223,8 +223,8 @@ piece-emit t c κs =
     let s = i .before .before .before in
     let a = s .args in
     let p = s .pre in
-    let low = rw (below-there (a .codes .now) (a .p) (a .q) (i .if1 .left)) at (p .1 .0 .1) in
-    (omega (arith, p .0, i .if1 .left), ((p .1 .0 .0, low), (omega (arith, p .1 .1, i .if1 .left), refl)))
+    let within = rw (below-there (a .codes .now) (a .p) (a .q) (i .if1 .left)) at (p .1 .0 .1) in
+    (omega (arith, p .0, i .if1 .left), ((p .1 .0 .0, within), (omega (arith, p .1 .1, i .if1 .left), refl)))
 
 piece-code : (t : ℕ) → emit-piece-lts.Need-returns-3 (emit-piece-calls t) (emit-piece-at t) emit-piece.Post
 piece-code t c =
@@ -239,7 +239,7 @@ first-requires t c κs =
     let s = c .before .before .before .before in
     let a = s .args in
     let p = s .pre in
-    (omega (arith, p .0), ((p .1 .0 .0, low-first (codeBelow (a .codes .now) (a .p)) (a .row .0) _ (c .before .field-a .ensures) _ (p .1 .0 .1)), p .1 .1))
+    (omega (arith, p .0), ((p .1 .0 .0, within-first (codeBelow (a .codes .now) (a .p)) (a .row .0) _ (c .before .field-a .ensures) _ (p .1 .0 .1)), p .1 .1))
 
 second-requires : (t : ℕ) → emit-row-lts.Need-emit-field-requires-2 (emit-row-calls t) (emit-row-at t) emit-row.Post
 second-requires t c κs =
@@ -248,8 +248,8 @@ second-requires t c κs =
     let a = s .args in
     let self = codeBelow (a .codes .now) (a .p) in
     let p = s .pre in
-    let rest = low-rest self (a .row .0) _ (first .before .before .field-a .ensures) _ (p .1 .0 .1) (first .emit-field .ensures .pieces .next) in
-    (omega (arith, p .0), ((p .1 .0 .0, low-first self (a .row .1) _ (c .before .field-b .ensures) _ rest), p .1 .1))
+    let rest = within-rest self (a .row .0) _ (first .before .before .field-a .ensures) _ (p .1 .0 .1) (first .emit-field .ensures .pieces .next) in
+    (omega (arith, p .0), ((p .1 .0 .0, within-first self (a .row .1) _ (c .before .field-b .ensures) _ rest), p .1 .1))
 
 third-requires : (t : ℕ) → emit-row-lts.Need-emit-field-requires-3 (emit-row-calls t) (emit-row-at t) emit-row.Post
 third-requires t c κs =
@@ -259,9 +259,9 @@ third-requires t c κs =
     let a = s .args in
     let self = codeBelow (a .codes .now) (a .p) in
     let p = s .pre in
-    let rest = low-rest self (a .row .0) _ (first .before .before .field-a .ensures) _ (p .1 .0 .1) (first .emit-field .ensures .pieces .next) in
-    let last = low-rest self (a .row .1) _ (second .before .before .field-b .ensures) _ rest (second .emit-field2 .ensures .pieces .next) in
-    (omega (arith, p .0), ((p .1 .0 .0, low-first self (a .row .2) _ (c .before .field-c .ensures) _ last), p .1 .1))
+    let rest = within-rest self (a .row .0) _ (first .before .before .field-a .ensures) _ (p .1 .0 .1) (first .emit-field .ensures .pieces .next) in
+    let last = within-rest self (a .row .1) _ (second .before .before .field-b .ensures) _ rest (second .emit-field2 .ensures .pieces .next) in
+    (omega (arith, p .0), ((p .1 .0 .0, within-first self (a .row .2) _ (c .before .field-c .ensures) _ last), p .1 .1))
 
 node-requires : (t : ℕ) → emit-row-lts.Need-emit-node-requires (emit-row-calls t) (emit-row-at t) emit-row.Post
 node-requires t c κs =

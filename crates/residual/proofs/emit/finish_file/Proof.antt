@@ -7,7 +7,7 @@ use lib.ListN.{length}
 use Rattle.script.specs.File.{nodeOffset, fileLength}
 use Rattle.script.specs.Columns.{inputsIn}
 use Rattle.residual.specs.Cells.{codeAt}
-use Rattle.residual.proofs.Finishing.{fits-small, top-low, finish-written, finish-short, put-written, nodes-room}
+use Rattle.residual.proofs.Finishing.{fits-small, top-within, finish-written, finish-short, put-written, nodes-room}
 use Rattle.residual.proofs.emit.finish_file.Statement.{statement}
 use Rattle.residual.proofs.emit.finish_file.Tie as tie
 
@@ -25,7 +25,7 @@ emit-root-requires c κs =
     let i = c .before .before .before .before .before .before .before .before .before .before in
     let s = i .before .before .before .before .before in
     let d = codeAt (s .args .codes .now) (s .args .p) in
-    (omega (arith, s .fits .count, c .node-offset .ensures), top-low d (s .pre .0) (fits-small d (s .pre .0) (s .pre .1)))
+    (omega (arith, s .fits .count, c .node-offset .ensures), top-within d (s .pre .0) (fits-small d (s .pre .0) (s .pre .1)))
 
 returns-2 : tie.Need-returns-2
 returns-2 c =

@@ -8,7 +8,7 @@ returns : tie.Need-returns
 returns c =
     let at-counted = c .before .before .before .before .before .before .before .before .before .before .before .counted in
     let at-make = c .before .before .before .before .before .before .before .make in
-    makes _ _ _ _ _ _ _ _ _ _ _ _ (at-counted .ensures) (at-make .ensures) (c .reply .ensures)
+    makes (at-counted .ensures) (at-make .ensures) (c .reply .ensures)
 
 pub scriptmaker-make-spec : {M : Type 1} → statement M
 scriptmaker-make-spec = tie.close (tie.spec (λ c κs. search needs) (λ c κs. search needs) (λ c κs. search needs) (λ c. search needs) (λ c.

@@ -8,7 +8,7 @@ returns : tie.Need-returns
 returns c =
     let at-read = c .before .before .before .before .before .before .before .before .before .before .before .before .before .before .before
     .before .read in
-    reads _ _ _ _ _ (at-read .ensures) (c .reply .ensures)
+    reads (at-read .ensures) (c .reply .ensures)
 
 pub scriptmaker-read-spec : {M : Type 1} → statement M
 scriptmaker-read-spec = tie.close (tie.spec (λ c κs. search needs) (λ c κs. search needs) (λ c. search needs) (λ c. search needs) (λ c.

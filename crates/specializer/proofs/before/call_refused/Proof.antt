@@ -1,7 +1,7 @@
 -- `specializer::before::call_refused` meets its contract: the first of two refusals is told. Assumes nothing.
 use mathlib.Core.Path.{refl}
 use Rattle.script.specs.Tables.{rowInput, tablesScript}
-use Rattle.script.proofs.Verdicts.{told-first, told-then}
+use Rattle.script.proofs.Verdicts.{refused-tells-first, passed-tells-next}
 use Rattle.lambdamix.specs.Specializing.{laterRefusal}
 use borrow.Author.Needs.{needs}
 use Rattle.specializer.proofs.before.call_refused.Statement.{statement}
@@ -11,12 +11,12 @@ returns : tie.Need-returns
 unfolding laterRefusal
 returns c =
     let at-annotation-by = c .before .before .before .annotation-by in
-    λ ks xs ys zs vs ok p ss l. told-first (at-annotation-by .ensures ks xs ys zs vs ok p) _ (c .before .f .given .1) (search needs)
+    λ ks xs ys zs vs ok p ss l. refused-tells-first (at-annotation-by .ensures ks xs ys zs vs ok p) _ (c .before .f .given .1) (search needs)
 
 returns-2 : tie.Need-returns-2
 unfolding laterRefusal tablesScript rowInput
 returns-2 c =
-    λ ks xs ys zs vs ok p ss l. told-then (c .before .before .before .annotation-by .ensures ks xs ys zs vs ok p) (c .before .enum-told .given .1)
+    λ ks xs ys zs vs ok p ss l. passed-tells-next (c .before .before .before .annotation-by .ensures ks xs ys zs vs ok p) (c .before .enum-told .given .1)
     (c .call-or-stores-refusal .ensures _ ss refl l)
 
 pub call-refused-spec : {M : Type 1} → statement M

@@ -6,7 +6,7 @@ use native.Mathlib.Omega.{arith}
 use lib.ListN.{length}
 use Rattle.lambdamix.specs.Limits.{maxNodes}
 use borrow.Author.Tests.{leb-true, leb-false}
-use Rattle.script.proofs.ReplyLaws.{tells-by}
+use Rattle.script.proofs.ReplyLaws.{refusal-tells}
 use Rattle.tables.proofs.refusal.tables_packed.Statement.{statement}
 use Rattle.tables.proofs.refusal.tables_packed.Tie as tie
 
@@ -14,7 +14,7 @@ packed-refusal-requires : tie.Need-packed-refusal-requires
 packed-refusal-requires c κs = leb-true _ _ (sym (c .before .before .enough-words .ensures) ∙ c .before .if1 .taken)
 
 returns : tie.Need-returns
-returns c = (tells-by (c .before .before .packed-refusal .ensures .0), c .before .before .packed-refusal .ensures .1)
+returns c = (refusal-tells (c .before .before .packed-refusal .ensures .0), c .before .before .packed-refusal .ensures .1)
 
 returns-2 : tie.Need-returns-2
 returns-2 c =

@@ -4,7 +4,7 @@ use Prim.Native.Nat.{ℕ}
 use native.Mathlib.Omega.{arith}
 use lib.ListN.{length-replicate}
 use Rattle.lambdamix.specs.Limits.{maxNodes}
-use Rattle.script.proofs.ReplyLaws.{tells-by}
+use Rattle.script.proofs.ReplyLaws.{refusal-tells}
 use Rattle.tables.proofs.refusal.tables_refusal.Statement.{statement}
 use Rattle.tables.proofs.refusal.tables_refusal.Tie as tie
 
@@ -16,10 +16,10 @@ unfolding maxNodes
 packed-refusal-requires-2 c κs = omega (arith, length-replicate {A = ℕ} maxNodes 0)
 
 returns : tie.Need-returns
-returns c = tells-by (c .before .packed-refusal .ensures .0)
+returns c = refusal-tells (c .before .packed-refusal .ensures .0)
 
 returns-2 : tie.Need-returns-2
-returns-2 c = tells-by (c .before .packed-refusal2 .ensures .0)
+returns-2 c = refusal-tells (c .before .packed-refusal2 .ensures .0)
 
 pub tables-refusal-spec : {M : Type 1} → statement M
 tables-refusal-spec =

@@ -1,9 +1,9 @@
--- `residual::size::spend_node` meets its contract: each branch knows what gives out. Assumes nothing.
+-- `residual::size::charge_node` meets its contract: each branch knows what gives out. Assumes nothing.
 use borrow.Author.Needs.{needs}
 use Rattle.residual.specs.Cells.{roomOf}
 use Rattle.residual.proofs.CellLaws.{no-room, no-height, node-left}
-use Rattle.residual.proofs.size.spend_node.Statement.{statement}
-use Rattle.residual.proofs.size.spend_node.Tie as tie
+use Rattle.residual.proofs.size.charge_node.Statement.{statement}
+use Rattle.residual.proofs.size.charge_node.Tie as tie
 
 returns : tie.Need-returns
 unfolding roomOf
@@ -16,5 +16,5 @@ returns-2 c = no-height (c .before .before .args .room) (c .before .before .args
 returns-3 : tie.Need-returns-3
 returns-3 c = node-left (c .before .before .args .room) (c .before .before .args .height) (c .before .if1 .left) (c .if2 .left)
 
-pub spend-node-spec : {M : Type 1} → statement M
-spend-node-spec = tie.close (tie.spec returns returns-2 (λ c. search needs) returns-3)
+pub charge-node-spec : {M : Type 1} → statement M
+charge-node-spec = tie.close (tie.spec returns returns-2 (λ c. search needs) returns-3)

@@ -1,11 +1,11 @@
--- `residual::size::spend` meets its contract: past the end stands a constant, else the root's node is counted. Assumes nothing.
+-- `residual::size::charge` meets its contract: past the end stands a constant, else the root's node is counted. Assumes nothing.
 use borrow.Author.Needs.{needs}
 use Rattle.lambdamix.specs.Limits.{maxNodes, maxHeight}
 use Rattle.residual.specs.Cells.{codeAt}
 use Rattle.residual.proofs.CellLaws.{whole-past, whole-under}
 use Rattle.residual.proofs.Finishing.{counted}
-use Rattle.residual.proofs.size.spend.Statement.{statement}
-use Rattle.residual.proofs.size.spend.Tie as tie
+use Rattle.residual.proofs.size.charge.Statement.{statement}
+use Rattle.residual.proofs.size.charge.Tie as tie
 
 returns : tie.Need-returns
 unfolding maxNodes
@@ -15,10 +15,10 @@ returns c =
 
 returns-2 : tie.Need-returns-2
 unfolding maxNodes maxHeight
-returns-2 c = counted _ _ (whole-under (c .spend-pieces .ensures))
+returns-2 c = counted _ _ (whole-under (c .charge-pieces .ensures))
 
-pub spend-spec : {M : Type 1} → statement M
-spend-spec =
+pub charge-spec : {M : Type 1} → statement M
+charge-spec =
     tie.close
     (tie.spec
     (λ c. search needs)
