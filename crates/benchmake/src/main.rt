@@ -2,9 +2,9 @@
 // (`longer-input` of the crate `respond`); what follows is read and dropped.
 use libc::STDIN_FILENO;
 use libc::STDOUT_FILENO;
-use respond::Response;
 use respond::answer::respond;
 use respond::limits::MAX_BYTES;
+use script::Writing;
 
 // Whether another buffer of standard input was full.
 fn more() -> bool {
@@ -39,7 +39,7 @@ fn main() {
     }
     let mut out = [0u8; MAX_BYTES];
     match respond(&space[..n], &mut out) {
-        Response::Printed(k) => print(&out, k),
-        Response::Refused(_) => {}
+        Writing::Written(k) => print(&out, k),
+        Writing::Refused(_) => {}
     }
 }

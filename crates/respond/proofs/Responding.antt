@@ -17,18 +17,18 @@ use Rattle.script.specs.declared.Reading.the-variants as Reading
 use Rattle.script.specs.Bytes.{byteAt}
 use Rattle.lambdamix.specs.Refusal.{Refusal, refusedUnless}
 use Rattle.script.specs.Refusals.{fileRefusal}
-use Rattle.script.specs.Replies.{headCounts}
+use Rattle.script.specs.Replies.{headCounts, writingReply, WritesText}
 use Rattle.file.specs.Encodable.{AllBytes}
 use Rattle.script.specs.Tables.{Tables, longEnough, over, writtenOutput}
 use Rattle.script.specs.Replies.{Reads}
 use Rattle.text.specs.Places.{most}
 use Rattle.script.proofs.Rows.{everywhere}
-use Rattle.respond.specs.declared.Response.the-variants.{Printed, Refused}
+use Rattle.script.specs.declared.Writing.the-variants.{Written, Refused}
 use Rattle.respond.specs.Response.{response}
 use Rattle.streams.specs.Lines.{unmadeText}
 use Rattle.streams.specs.Input.{scriptLength, scriptPart, settingsPart}
 use Rattle.script.specs.Replies.{replying}
-use Rattle.respond.specs.Responds.{responseReply, outputRefusal, Responds}
+use Rattle.respond.specs.Responds.{outputRefusal, Responds}
 use Rattle.respond.specs.Stages.{AnswersScript, AnswersReading, Answers}
 use Rattle.streams.specs.Printed.{Prints}
 use Rattle.streams.proofs.Splitting.{front-part, back-part}
@@ -100,21 +100,23 @@ module _ (input : List ℕ) {x y : Tables} {end : ℕ} {told : Reading} (room : 
 
 -- ---- the call
 
-module _ {input out : List ℕ} where
-  pub call-answered :
-      {n : ℕ} {printed : List ℕ} → maxBytes ≤ length out → length out < most → Answers input out printed n → Responds input out printed (Printed n)
-  unfolding responseReply replying outputRefusal refusedUnless writtenOutput
-  call-answered {n} {printed} long small a =
-      let p = a .answers long in
-      let fits : length (response input) ≤ maxBytes = p .short in
-      let count : n ≡ length (response input) = omega (arith, p .placed .counted) in
-      let written : printed ≡ over (response input) out = p .placed .stands (omega arith) (omega arith) in
-      record {
-        reply = rw (le-leb maxBytes (length out) long, count);
-        output = rw (le-leb maxBytes (length out) long) written;
-      }
+pub call-answered :
+    {input out printed : List ℕ} {n : ℕ} → maxBytes ≤ length out → length out < most → Answers input out printed n →
+    Responds input out printed (Written n)
+unfolding writingReply replying outputRefusal refusedUnless writtenOutput
+call-answered {input} {out} {printed} {n} long small a =
+    let p = a .answers long in
+    let fits : length (response input) ≤ maxBytes = p .short in
+    let count : n ≡ length (response input) = omega (arith, p .placed .counted) in
+    let written : printed ≡ over (response input) out = p .placed .stands (omega arith) (omega arith) in
+    record {
+      reply = rw (le-leb maxBytes (length out) long, count);
+      output = rw (le-leb maxBytes (length out) long) written;
+    }
 
-  pub call-short : {f : Told.Refusal} → f .number ≡ 21 → f .place ≡ 0 → length out < maxBytes → Responds input out out (Refused f)
-  unfolding responseReply replying outputRefusal refusedUnless writtenOutput
-  call-short p q h =
-      record { reply = rw (lt-leb maxBytes (length out) h, p, q); output = rw (lt-leb maxBytes (length out) h) }
+pub call-short :
+    {f : Told.Refusal} {text out : List ℕ} → f .number ≡ 21 → f .place ≡ 0 → length out < maxBytes →
+    WritesText (outputRefusal out) text out out (Refused f)
+unfolding writingReply replying outputRefusal refusedUnless writtenOutput
+call-short {out} p q h =
+    record { reply = rw (lt-leb maxBytes (length out) h, p, q); output = rw (lt-leb maxBytes (length out) h) }

@@ -1,9 +1,9 @@
 // The program's answer to an input.
-use crate::Response;
 use crate::limits::MAX_BYTES;
 use crate::stage::answer_script;
 use reading::reader::read;
 use script::Refusal;
+use script::Writing;
 use script::limits::MAX_INPUTS;
 use script::limits::MAX_NODES;
 use script::limits::MAX_TYPES;
@@ -53,13 +53,13 @@ fn answer(input: &[u8], out: &mut [u8]) -> usize
 }
 
 // Every input is answered by the bytes that the program prints for it. An output that may be too short for them is 21, before all else.
-pub fn respond(input: &[u8], out: &mut [u8]) -> Response
+pub fn respond(input: &[u8], out: &mut [u8]) -> Writing
     ensures { λ r. ⌜ Responds (now (input .entry)) (now (out .entry)) (now (out .exit)) r ⌝ }
 {
     if MAX_BYTES <= out.len() {
-        return Response::Printed(answer(input, out));
+        return Writing::Written(answer(input, out));
     }
-    Response::Refused(Refusal {
+    Writing::Refused(Refusal {
         number: 21,
         place: 0,
     })

@@ -1,9 +1,9 @@
 // An input of the program: the text that is printed for it.
 use crate::print;
 use libc::STDOUT_FILENO;
-use respond::Response;
 use respond::answer::respond;
 use respond::limits::MAX_BYTES;
+use script::Writing;
 
 fn print_text(k: usize, text: &[u8], n: usize) {
     print::first(k);
@@ -17,7 +17,7 @@ fn print_text(k: usize, text: &[u8], n: usize) {
 pub(crate) fn try_input(k: usize, input: &[u8]) {
     let mut out = [0u8; MAX_BYTES];
     match respond(input, &mut out) {
-        Response::Printed(n) => print_text(k, &out, n),
-        Response::Refused(_) => print_text(k, b"too short", 9),
+        Writing::Written(n) => print_text(k, &out, n),
+        Writing::Refused(_) => print_text(k, b"too short", 9),
     }
 }
