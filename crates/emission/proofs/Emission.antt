@@ -20,9 +20,9 @@ use Rattle.file.specs.Written.{Put, PutWhole}
 use Rattle.file.proofs.RecordLaws.{records-length}
 use Rattle.file.proofs.Layouts.{nodeLayout, node-sized}
 use Rattle.file.proofs.WritingLaws.{put-there, put-both, put-length, put-same, records-append}
-use Rattle.residual.specs.Cells.{pieceBy, rowPieces}
-use Rattle.residual.specs.Emission.{Emits, EmitsAll, EmitsOver, EmitsField, fieldBy, rowNode}
+use Rattle.residual.specs.Cells.{pieceBy, rowPieces, fieldBy, rowNode}
+use Rattle.emission.specs.Emission.{Emits, EmitsAll, EmitsOver, EmitsField}
 use Rattle.residual.proofs.Rows.{by-piece, plain, ByRow}
 
 -- ---- bytes
 

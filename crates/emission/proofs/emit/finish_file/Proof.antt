@@ -1,4 +1,4 @@
--- `residual::emit::finish_file` meets its contract: each branch knows whether the output is long enough, and head, inputs and nodes are put
+-- `emission::emit::finish_file` meets its contract: each branch knows whether the output is long enough, and head, inputs and nodes are put
 -- one behind the other. Assumes nothing.
 use borrow.Author.Needs.{needs}
 use Prim.Native.Nat.{_≤_}
@@ -6,10 +6,10 @@ use native.Mathlib.Omega.{arith}
 use lib.ListN.{length}
 use Rattle.script.specs.File.{nodeOffset, fileLength}
 use Rattle.script.specs.Columns.{inputsIn}
 use Rattle.residual.specs.Cells.{codeAt}
-use Rattle.residual.proofs.Finishing.{fits-small, top-within, finish-written, finish-short, put-written, nodes-room}
-use Rattle.residual.proofs.emit.finish_file.Statement.{statement}
-use Rattle.residual.proofs.emit.finish_file.Tie as tie
+use Rattle.emission.proofs.Finishing.{fits-small, top-within, finish-written, finish-short, put-written, nodes-room}
+use Rattle.emission.proofs.emit.finish_file.Statement.{statement}
+use Rattle.emission.proofs.emit.finish_file.Tie as tie
 
 returns : tie.Need-returns
 returns c =

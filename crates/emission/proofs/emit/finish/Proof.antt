@@ -1,9 +1,9 @@
--- `residual::emit::finish` meets its contract: the count tells whether the code fits a file. Assumes nothing.
+-- `emission::emit::finish` meets its contract: the count tells whether the code fits a file. Assumes nothing.
 use borrow.Author.Needs.{needs}
 use Rattle.lambdamix.specs.Limits.{maxNodes}
-use Rattle.residual.proofs.Finishing.{counted-over, counted-size, counted-fits, finish-unfit}
-use Rattle.residual.proofs.emit.finish.Statement.{statement}
-use Rattle.residual.proofs.emit.finish.Tie as tie
+use Rattle.emission.proofs.Finishing.{counted-over, counted-size, counted-fits, finish-unfit}
+use Rattle.emission.proofs.emit.finish.Statement.{statement}
+use Rattle.emission.proofs.emit.finish.Tie as tie
 
 pub finish-spec : {M : Type 1} → statement M
 unfolding maxNodes

@@ -1,10 +1,9 @@
 -- The end of a run that gave code: its file is put part behind part, and the reply and the output are those of paper 01, "26, 21".
 -- Assumes nothing.
-use Prim.Native.Nat.{ℕ, zero, suc, _+_, _*_, _-_, _≤_, _<_}
-use mathlib.Core.Path.{_≡_, refl, sym, ap, _∙_, subst⁻¹}
+use Prim.Native.Nat.{ℕ, _+_, _*_, _-_, _≤_, _<_}
+use mathlib.Core.Path.{_≡_, refl, sym, ap, _∙_}
 use mathlib.Core.Bool.{true, false}
 use mathlib.Core.List.{List, _++_}
-use mathlib.Core.Option.{some}
 use native.Mathlib.Omega.{arith}
 use lib.ListN.{length}
 use lib.Dec.{leb}
@@ -24,11 +23,10 @@ use Rattle.file.proofs.RecordLaws.{records-length}
 use Rattle.file.proofs.Layouts.{inputLayout}
 use Rattle.file.proofs.FileLaws.{file-length}
 use Rattle.file.proofs.WritingLaws.{put-length, put-both, put-same, put-over}
-use Rattle.residual.specs.declared.Finish.the-variants as Finish
-use Rattle.residual.specs.Cells.{charge, roomOf}
+use Rattle.emission.specs.declared.Finish.the-variants as Finish
+use Rattle.residual.specs.Cells.{Counted}
 use Rattle.residual.specs.AfterRun.{writtenBy, afterRun}
-use Rattle.residual.specs.Emission.{Counted, replyOf, outcome}
-use Rattle.residual.proofs.Charging.{Charged, left, charged, charge-fits, charge-size}
+use Rattle.emission.specs.Emission.{replyOf, outcome}
 
 -- ---- counts
 
@@ -43,20 +41,6 @@ pub fits-small : {n : ℕ} (c : Code) → n ≡ size c → fits c ≡ true → n
 unfolding fits
 fits-small c e h =
     omega (arith, leb-true (size c) maxNodes (and-both (leb (size c) maxNodes) (leb (codeHeight c) maxHeight) h .0))
-
--- what the count of code leaves tells whether it fits a file, and its nodes
-pub counted : (room : ℕ) (c : Code) → roomOf room ≡ charge c maxNodes maxHeight → Counted c room
-unfolding roomOf
-counted zero c e = record { most = omega arith; over = λ z. charge-fits c (sym e); left = λ f. absurd (f refl) }
-counted (suc b) c e = go (subst⁻¹ (Charged (size c) (codeHeight c) maxNodes maxHeight) e (charged c maxNodes maxHeight))
-  where
-    go : Charged (size c) (codeHeight c) maxNodes maxHeight (some b) → Counted c (suc b)
-    go (left q l) =
-        record {
-          most = omega arith;
-          over = λ z. absurd (omega arith);
-          left = λ f. (omega arith, charge-size c b (sym e) .0);
-        }
 
 module _ {c : Code} {r : ℕ} (s : Counted c r) where
   pub counted-over : r ≡ 0 → fits c ≡ false

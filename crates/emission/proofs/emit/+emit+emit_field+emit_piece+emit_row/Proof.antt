@@ -14,27 +14,27 @@ use Rattle.lambdamix.specs.Limits.{maxNodes}
 use Rattle.lambdamix.specs.Code.{after}
 use Rattle.script.specs.declared.Row.{Row}
 use Rattle.script.specs.KindRows.{rowAt}
-use Rattle.residual.specs.Cells.{codeAt, codeBelow, rowPieces}
-use Rattle.residual.specs.Emission.{maxBase, Emits, EmitsOver, rowNode}
+use Rattle.residual.specs.Cells.{codeAt, codeBelow, rowPieces, rowNode}
+use Rattle.emission.specs.Emission.{maxBase, Emits, EmitsOver}
 use Rattle.residual.proofs.Rows.{not-child, HasRow, ByRow, variable, function, application, fix, choice, operation}
 use Rattle.residual.proofs.CellLaws.{below-there, below-none, is-variable, is-row, is-constant}
-use Rattle.residual.proofs.Emission.{within-constant, emits-constant, emits-variable, emits-plain, within-child, emits-child}
-use Rattle.residual.proofs.Emission.{within-first, within-rest, emits-fields, emits-row, within-row}
-use Rattle.residual.proofs.emit.emit.Reads as emit
-use Rattle.residual.proofs.emit.emit.Kinds as emit-kinds
-use Rattle.residual.proofs.emit.+emit+emit_field+emit_piece+emit_row.Lts-emit as emit-lts
-use Rattle.residual.proofs.emit.emit_field.Reads as emit-field
-use Rattle.residual.proofs.emit.emit_field.Kinds as emit-field-kinds
-use Rattle.residual.proofs.emit.+emit+emit_field+emit_piece+emit_row.Lts-emit_field as emit-field-lts
-use Rattle.residual.proofs.emit.emit_piece.Reads as emit-piece
-use Rattle.residual.proofs.emit.emit_piece.Kinds as emit-piece-kinds
-use Rattle.residual.proofs.emit.+emit+emit_field+emit_piece+emit_row.Lts-emit_piece as emit-piece-lts
-use Rattle.residual.proofs.emit.emit_row.Reads as emit-row
-use Rattle.residual.proofs.emit.emit_row.Kinds as emit-row-kinds
-use Rattle.residual.proofs.emit.+emit+emit_field+emit_piece+emit_row.Lts-emit_row as emit-row-lts
+use Rattle.emission.proofs.Emission.{within-constant, emits-constant, emits-variable, emits-plain, within-child, emits-child}
+use Rattle.emission.proofs.Emission.{within-first, within-rest, emits-fields, emits-row, within-row}
+use Rattle.emission.proofs.emit.emit.Reads as emit
+use Rattle.emission.proofs.emit.emit.Kinds as emit-kinds
+use Rattle.emission.proofs.emit.+emit+emit_field+emit_piece+emit_row.Lts-emit as emit-lts
+use Rattle.emission.proofs.emit.emit_field.Reads as emit-field
+use Rattle.emission.proofs.emit.emit_field.Kinds as emit-field-kinds
+use Rattle.emission.proofs.emit.+emit+emit_field+emit_piece+emit_row.Lts-emit_field as emit-field-lts
+use Rattle.emission.proofs.emit.emit_piece.Reads as emit-piece
+use Rattle.emission.proofs.emit.emit_piece.Kinds as emit-piece-kinds
+use Rattle.emission.proofs.emit.+emit+emit_field+emit_piece+emit_row.Lts-emit_piece as emit-piece-lts
+use Rattle.emission.proofs.emit.emit_row.Reads as emit-row
+use Rattle.emission.proofs.emit.emit_row.Kinds as emit-row-kinds
+use Rattle.emission.proofs.emit.+emit+emit_field+emit_piece+emit_row.Lts-emit_row as emit-row-lts
 use Rattle.residual.proofs.code.plain_field.Reads as plain-field-reads
-use Rattle.residual.proofs.emit.emit_constant.Reads as emit-constant-reads
-use Rattle.residual.proofs.emit.emit_node.Reads as emit-node-reads
+use Rattle.emission.proofs.emit.emit_constant.Reads as emit-constant-reads
+use Rattle.emission.proofs.emit.emit_node.Reads as emit-node-reads
 use Rattle.script.proofs.kinds.row_of.Reads as row-of-reads
 use Rattle.script.proofs.word.field_a.Reads as field-a-reads
 use Rattle.script.proofs.word.field_b.Reads as field-b-reads
@@ -42,8 +42,8 @@ use Rattle.script.proofs.word.field_c.Reads as field-c-reads
 use Rattle.script.proofs.word.kind.Reads as kind-reads
 use Rattle.script.proofs.word.name_a.Reads as name-a-reads
 use Rattle.script.proofs.word.value.Reads as value-reads
-use Rattle.residual.proofs.emit.+emit+emit_field+emit_piece+emit_row.{statement}
-use Rattle.residual.proofs.emit.+emit+emit_field+emit_piece+emit_row.Tie.{close}
+use Rattle.emission.proofs.emit.+emit+emit_field+emit_piece+emit_row.{statement}
+use Rattle.emission.proofs.emit.+emit+emit_field+emit_piece+emit_row.Tie.{close}
 
 abbrev μ-emit : Measures 2 emit-kinds.ps ℕ
 μ-emit κs a = 4 * a .1 .0 + 3

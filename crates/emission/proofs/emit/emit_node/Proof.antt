@@ -1,10 +1,10 @@
--- `residual::emit::emit_node` meets its contract: the writer's node at its place. Assumes nothing.
+-- `emission::emit::emit_node` meets its contract: the writer's node at its place. Assumes nothing.
 use borrow.Author.Needs.{needs}
 use native.Mathlib.Omega.{arith}
 use mir.Facts.{toZ-ofZ}
-use Rattle.residual.proofs.Emission.{put-at}
-use Rattle.residual.proofs.emit.emit_node.Statement.{statement}
-use Rattle.residual.proofs.emit.emit_node.Tie as tie
+use Rattle.emission.proofs.Emission.{put-at}
+use Rattle.emission.proofs.emit.emit_node.Statement.{statement}
+use Rattle.emission.proofs.emit.emit_node.Tie as tie
 
 returns : tie.Need-returns
 returns c = put-at (omega arith) (rw (toZ-ofZ (c .before .before .before .before .before .before .fits .z)) at (c .before .before .node-at .ensures))

@@ -1,10 +1,10 @@
--- `residual::emit::emit_constant` meets its contract: one node behind the other. Assumes nothing.
+-- `emission::emit::emit_constant` meets its contract: one node behind the other. Assumes nothing.
 use borrow.Author.Needs.{needs}
 use mir.Facts.{toZ-ofZ}
 use Rattle.lambdamix.specs.Limits.{maxNodes}
-use Rattle.residual.proofs.Emission.{emits-lit}
-use Rattle.residual.proofs.emit.emit_constant.Statement.{statement}
-use Rattle.residual.proofs.emit.emit_constant.Tie as tie
+use Rattle.emission.proofs.Emission.{emits-lit}
+use Rattle.emission.proofs.emit.emit_constant.Statement.{statement}
+use Rattle.emission.proofs.emit.emit_constant.Tie as tie
 
 returns : tie.Need-returns
 returns c =

@@ -1,12 +1,12 @@
--- `residual::emit::emit_root` meets its contract: past the end stands a constant, else the cell's code is written. Assumes nothing.
+-- `emission::emit::emit_root` meets its contract: past the end stands a constant, else the cell's code is written. Assumes nothing.
 use borrow.Author.Needs.{needs}
 use mathlib.Core.Path.{refl}
 use native.Mathlib.Omega.{arith}
 use Rattle.lambdamix.specs.Limits.{maxNodes}
 use Rattle.residual.proofs.CellLaws.{past-read}
-use Rattle.residual.proofs.Emission.{emits-constant}
-use Rattle.residual.proofs.emit.emit_root.Statement.{statement}
-use Rattle.residual.proofs.emit.emit_root.Tie as tie
+use Rattle.emission.proofs.Emission.{emits-constant}
+use Rattle.emission.proofs.emit.emit_root.Statement.{statement}
+use Rattle.emission.proofs.emit.emit_root.Tie as tie
 
 constant-requires : tie.Need-emit-constant-requires
 unfolding maxNodes
