@@ -31,10 +31,10 @@ use Rattle.script.specs.Tables.{Tables, tablesRefusal, roomRefusal}
 use Rattle.script.proofs.RefusalLaws.{neither}
 use Rattle.script.proofs.Sound.{Sound, sound}
 use Rattle.walks.proofs.Agreement.{children-fall}
-use Rattle.printer.specs.Nodes.{nodesText}
+use Rattle.layout.specs.Nodes.{nodesText}
 use Rattle.printer.specs.ListCalls.{tablesText, listRefusal, ListsTables}
-use Rattle.printer.proofs.NodeLaws.{node-step}
-use Rattle.printer.proofs.Trees.{tree-text}
+use Rattle.layout.proofs.NodeLaws.{node-step}
+use Rattle.layout.proofs.Trees.{tree-text}
 use Rattle.printer.proofs.OwnBytes.{total, own-bytes}
 
 -- ---- sums over numbers, over a list and over the children of all nodes

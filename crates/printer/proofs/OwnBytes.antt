@@ -16,9 +16,9 @@ use Rattle.lambdamix.specs.Listing.{nameBy, nameText, operatorText, formerText}
 use Rattle.script.specs.Kinds.{useOf}
 use Rattle.script.proofs.TableLaws.{row-uses}
 use Rattle.walks.proofs.TreeForms.{All, at-all}
-use Rattle.printer.specs.Nodes.{stepWord, wordOf, wordText, framed, fieldText, nodeText}
+use Rattle.layout.specs.Nodes.{stepWord, wordOf, wordText, framed, fieldText, nodeText}
 use Rattle.text.proofs.Digits.{digits-within}
-use Rattle.printer.proofs.WordLaws.{sign-text}
+use Rattle.layout.proofs.WordLaws.{sign-text}
 
 -- the sum of a number for each of a list
 unfoldable pub total : (ℕ → ℕ) → List ℕ → ℕ

@@ -20,11 +20,11 @@ use Rattle.script.proofs.RefusalLaws.{neither}
 use Rattle.script.proofs.Numbered.{length-numbered, row-at}
 use Rattle.script.proofs.Sound.{sound}
 use Rattle.script.proofs.Texts.{text-fits, text-short}
-use Rattle.printer.specs.Nodes.{nodesText, wholeText}
+use Rattle.layout.specs.Nodes.{nodesText, wholeText}
 use Rattle.printer.specs.ListCalls.{tablesText}
 use Rattle.printer.specs.NodeLists.{Lists}
 use Rattle.text.specs.Places.{Placed, most}
-use Rattle.printer.proofs.Trees.{tree-text}
+use Rattle.layout.proofs.Trees.{tree-text}
 
 -- ---- the text
 

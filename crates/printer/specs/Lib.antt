@@ -1,3 +1,2 @@
-pub mod Nodes
 pub mod ListCalls
 pub mod NodeLists

@@ -1,5 +1,5 @@
 // The listing of a script in lent tables.
-use crate::walk::whole;
+use layout::walk::whole;
 use script::Counts;
 use script::Refusal;
 use script::Verdict;

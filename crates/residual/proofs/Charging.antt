@@ -1,7 +1,7 @@
 -- Counting the written nodes of code with an early end is right: something is left exactly where the tree has no more nodes and
 -- is no higher than allowed, and then it is what the nodes leave; a piece that is counted twice takes as much again. Assumes nothing.
 use Prim.Native.Nat.{ℕ, zero, suc, _+_, _-_, _≤_, _<_, max}
-use mathlib.Core.Path.{_≡_, refl, subst, subst⁻¹}
+use mathlib.Core.Path.{_≡_, refl, sym, subst, subst⁻¹}
 use mathlib.Core.Bool.{Bool, true, false, _&&_}
 use mathlib.Core.Option.{Option, none, some}
 use native.Mathlib.Omega.{arith}
@@ -9,10 +9,10 @@ use lib.Dec.{leb}
 use borrow.Author.Tests.{leb-true, leb-false, le-leb}
 use Rattle.lambdamix.specs.Limits.{maxNodes, maxHeight}
 use Rattle.lambdamix.specs.Code.{Code, lit, ref, fn, form, Codes, nilC, consC, size, sizes, codeHeight, codeHeights, fits}
-use Rattle.residual.specs.Cells.{chargeBy, chargeLeaf, charge, chargeAll, chargeOne, roomOf}
+use Rattle.residual.specs.Cells.{chargeBy, chargeLeaf, charge, chargeAll, chargeOne, roomOf, Counted}
 
 -- r is what is left of b after k nodes, of which there are enough, at most h high; or there are not
-pub data Charged (k t b h : ℕ) : Option ℕ → Type 0 where
+data Charged (k t b h : ℕ) : Option ℕ → Type 0 where
   left : {r : ℕ} → k + r ≡ b → t ≤ h → Charged k t b h (some r)
   over : (k ≤ b → t ≤ h → ⊥) → Charged k t b h none
 
@@ -46,7 +46,7 @@ together (consC c cs) (over g) f = over (λ x y. g (omega arith) (omega arith))
 mutual
   unfolding charge size codeHeight
 
-  pub charged : (c : Code) (b h : ℕ) → Charged (size c) (codeHeight c) b h (charge c b h)
+  charged : (c : Code) (b h : ℕ) → Charged (size c) (codeHeight c) b h (charge c b h)
   charged (lit z) b h = leaf-charged 2 b h
   charged (ref x) b h = leaf-charged 1 b h
   charged (fn x c) zero h = over (λ p q. omega arith)
@@ -116,3 +116,17 @@ charge-size c r e = go (subst (Charged (size c) (codeHeight c) maxNodes maxHeigh
         Charged (size c) (codeHeight c) maxNodes maxHeight (some r) →
         ((leb (size c) maxNodes && leb (codeHeight c) maxHeight) ≡ true) × (size c ≡ maxNodes - r)
     go (left e l) = (rw (le-leb (size c) maxNodes (omega arith), le-leb (codeHeight c) maxHeight l), omega arith)
+
+-- what the count of code leaves tells whether it fits a file, and its nodes
+pub counted : (room : ℕ) (c : Code) → roomOf room ≡ charge c maxNodes maxHeight → Counted c room
+unfolding roomOf
+counted zero c e = record { most = omega arith; over = λ z. charge-fits c (sym e); left = λ f. absurd (f refl) }
+counted (suc b) c e = go (subst⁻¹ (Charged (size c) (codeHeight c) maxNodes maxHeight) e (charged c maxNodes maxHeight))
+  where
+    go : Charged (size c) (codeHeight c) maxNodes maxHeight (some b) → Counted c (suc b)
+    go (left q l) =
+        record {
+          most = omega arith;
+          over = λ z. absurd (omega arith);
+          left = λ f. (omega arith, charge-size c b (sym e) .0);
+        }

@@ -2,5 +2,3 @@ pub mod Rows
 pub mod CellLaws
 pub mod CodeTrees
 pub mod Charging
-pub mod Emission
-pub mod Finishing

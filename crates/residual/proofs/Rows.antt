@@ -13,8 +13,7 @@ use Rattle.lambdamix.specs.Code.{Code, Codes, consC, formNode, top, after, tops
 use Rattle.script.specs.declared.Row.{Row}
 use Rattle.script.specs.Kinds.{usesTable, useOf}
 use Rattle.script.specs.KindRows.{rowAt}
-use Rattle.residual.specs.Cells.{codeBy, pieceBy, rowPieces, pieces}
-use Rattle.residual.specs.Emission.{fieldBy, rowNode}
+use Rattle.residual.specs.Cells.{codeBy, pieceBy, rowPieces, fieldBy, rowNode, pieces}
 
 -- ---- one field
 

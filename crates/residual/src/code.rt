@@ -3,7 +3,7 @@ use lambdamix::Use;
 ghost use mathlib.Core.Path.{_≡_};
 ghost use Rattle.lambdamix.specs.Term.{operatorOf};
 ghost use Rattle.lambdamix.specs.Code.{operatorNumber};
-ghost use Rattle.residual.specs.Emission.{fieldBy};
+ghost use Rattle.residual.specs.Cells.{fieldBy};
 
 // The number that an operator is written as.
 fn operator(f: u16) -> u16

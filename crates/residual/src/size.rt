@@ -13,8 +13,7 @@ ghost use mathlib.Core.Bool.{true};
 ghost use lib.ListN.{length, getD};
 ghost use Rattle.lambdamix.specs.declared.Use.the-variants.{Child};
 ghost use Rattle.lambdamix.specs.Code.{Code, nilC, ref};
-ghost use Rattle.residual.specs.Cells.{codeAt, codeBelow, pieceBy, rowPieces, chargeOne, roomOf, Charges, ChargesUnder, ChargesAll};
-ghost use Rattle.residual.specs.Emission.{Counted};
+ghost use Rattle.residual.specs.Cells.{codeAt, codeBelow, pieceBy, rowPieces, chargeOne, roomOf, Charges, ChargesUnder, ChargesAll, Counted};
 
 // One node, as a variable is.
 fn charge_node(room: u16, height: u16) -> u16

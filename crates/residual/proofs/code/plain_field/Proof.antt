@@ -1,6 +1,6 @@
 -- `residual::code::plain_field` meets its contract: each use tells its field. Assumes nothing.
 use borrow.Author.Needs.{needs}
-use Rattle.residual.specs.Emission.{fieldBy}
+use Rattle.residual.specs.Cells.{fieldBy}
 use Rattle.residual.proofs.code.plain_field.Statement.{statement}
 use Rattle.residual.proofs.code.plain_field.Tie as tie
 

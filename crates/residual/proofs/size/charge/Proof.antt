@@ -3,7 +3,7 @@ use borrow.Author.Needs.{needs}
 use Rattle.lambdamix.specs.Limits.{maxNodes, maxHeight}
 use Rattle.residual.specs.Cells.{codeAt}
 use Rattle.residual.proofs.CellLaws.{whole-past, whole-under}
-use Rattle.residual.proofs.Finishing.{counted}
+use Rattle.residual.proofs.Charging.{counted}
 use Rattle.residual.proofs.size.charge.Statement.{statement}
 use Rattle.residual.proofs.size.charge.Tie as tie
 

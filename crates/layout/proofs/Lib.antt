@@ -1,0 +1,4 @@
+pub mod Signs
+pub mod WordLaws
+pub mod NodeLaws
+pub mod Trees
