@@ -9,7 +9,7 @@ use lib.Dec.{leb, ltb}
 use borrow.Author.Tests.{lt-ltb, le-ltb, ltb-true, ltb-false, le-leb, lt-leb, leb-true, leb-false}
 use Rattle.lambdamix.specs.Script.{Script}
 use Rattle.lambdamix.specs.Types.{Ty, typeOf}
-use Rattle.lambdamix.specs.Checker.{Checked, typed, faulty, lowerBy, lower, both, Verdict, rule, gather}
+use Rattle.lambdamix.specs.Checker.{Checked, typed, faulty, lowerBy, lower, bothTyped, Verdict, rule, gather}
 use Rattle.lambdamix.proofs.Tests.{holds-or-fails}
 use Rattle.annotation.specs.AnswerWords.{pick, faultLimit, refusalIn, typeBase, typeIn, meaning, AnswersFor, lowest}
 
@@ -37,8 +37,8 @@ unfolding meaning
 typed-answer {s} {e} p h = sym (p .said) ∙ rw (le-ltb e typeBase h)
 
 module _ {A : Type 0} {m : ℕ} {x : Checked A} (p : TellsFault m x) where
-  pub fault-alone : {B : Type 0} (b : B) → TellsFault m (both x (typed b))
-  unfolding both
+  pub fault-alone : {B : Type 0} (b : B) → TellsFault m (bothTyped x (typed b))
+  unfolding bothTyped
   fault-alone b =
       record {
         fault = λ h. rw (p .fault h);
@@ -82,8 +82,8 @@ one-of P true e f p q = p
 one-of P false e f p q = q
 
 module _ {A B : Type 0} {e f : ℕ} {x : Checked A} {y : Checked B} (p : TellsFault e x) (q : TellsFault f y) where
-  two-faults : e < typeBase → f < typeBase → TellsFault (lowest e f) (both x y)
-  unfolding lowest both lower
+  two-faults : e < typeBase → f < typeBase → TellsFault (lowest e f) (bothTyped x y)
+  unfolding lowest bothTyped lower
   two-faults h k =
       let l : lowest e f < typeBase = one-of (λ m. m < typeBase) (leb (e / faultLimit) (f / faultLimit)) e f h k in
       record {
@@ -91,8 +91,8 @@ module _ {A B : Type 0} {e f : ℕ} {x : Checked A} {y : Checked B} (p : TellsFa
         no-fault = λ m. let z : ⊥ = omega arith in absurd z;
       }
 
-  first-fault : e < typeBase → typeBase ≤ f → TellsFault (lowest e f) (both x y)
-  unfolding lowest both
+  first-fault : e < typeBase → typeBase ≤ f → TellsFault (lowest e f) (bothTyped x y)
+  unfolding lowest bothTyped
   first-fault h k =
       elim (q .no-fault k) [
         | right b ↦ rw (le-leb (e / faultLimit) (f / faultLimit) (omega arith)) (record {
@@ -102,8 +102,8 @@ module _ {A B : Type 0} {e f : ℕ} {x : Checked A} {y : Checked B} (p : TellsFa
         })
       ]
 
-  second-fault : typeBase ≤ e → f < typeBase → TellsFault (lowest e f) (both x y)
-  unfolding lowest both
+  second-fault : typeBase ≤ e → f < typeBase → TellsFault (lowest e f) (bothTyped x y)
+  unfolding lowest bothTyped
   second-fault h k =
       elim (p .no-fault h) [
         | right a ↦ rw (lt-leb (e / faultLimit) (f / faultLimit) (omega arith)) (record {
@@ -113,8 +113,8 @@ module _ {A B : Type 0} {e f : ℕ} {x : Checked A} {y : Checked B} (p : TellsFa
         })
       ]
 
-  no-faults : typeBase ≤ e → typeBase ≤ f → TellsFault (lowest e f) (both x y)
-  unfolding lowest both
+  no-faults : typeBase ≤ e → typeBase ≤ f → TellsFault (lowest e f) (bothTyped x y)
+  unfolding lowest bothTyped
   no-faults h k =
       let l : typeBase ≤ lowest e f = one-of (λ m. typeBase ≤ m) (leb (e / faultLimit) (f / faultLimit)) e f h k in
       elim (p .no-fault h) [
@@ -124,7 +124,7 @@ module _ {A B : Type 0} {e f : ℕ} {x : Checked A} {y : Checked B} (p : TellsFa
       ]
 
   -- Theorem: the lowest of two answers tells the fault of both.
-  pub fault-of-both : TellsFault (lowest e f) (both x y)
+  pub fault-of-both : TellsFault (lowest e f) (bothTyped x y)
   fault-of-both =
       ⊎-elim
       (λ a. ⊎-elim (λ b. two-faults (ltb-true _ _ a) (ltb-true _ _ b)) (λ b. first-fault (ltb-true _ _ a) (ltb-false _ _ b)) (holds-or-fails (ltb f typeBase)))

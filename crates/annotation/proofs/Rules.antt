@@ -14,7 +14,7 @@ use Rattle.lambdamix.specs.Script.{Script, Node, Row, rows, blankRow, nodeCount
 use Rattle.lambdamix.specs.Term.{Term, Terms, arity, childAt, build}
 use Rattle.lambdamix.specs.Types.{Ty, D, typeOf, typeCount}
 use Rattle.lambdamix.specs.Typing.{Context, bind}
-use Rattle.lambdamix.specs.Checker.{typed, both, gather, rule, own, provided, applyRule, fixRule, abstrBy, abstrRule, abstrDynRule, allDynamic, dynRule}
+use Rattle.lambdamix.specs.Checker.{typed, bothTyped, gather, rule, own, provided, applyRule, fixRule, abstrBy, abstrRule, abstrDynRule, allDynamic, dynRule}
 use Rattle.lambdamix.specs.Checker.{check, checkAll}
 use Rattle.lambdamix.proofs.KindCases.{KindOf, kind-of, constant-kind, variable-kind, lift-kind, function-kind, application-kind, fix-kind, conditional-kind}
 use Rattle.lambdamix.proofs.KindCases.{operation-kind, dynamic-function-kind, dynamic-application-kind, dynamic-fix-kind, dynamic-if-kind}
@@ -134,7 +134,7 @@ module _ {s : Script} {Γ : Context} where
 
   two-children-fault :
       {e f g : ℕ} {ts : Terms} → FieldsAnswer s Γ (true ∷ true ∷ false ∷ []) (e ∷ f ∷ g ∷ []) ts →
-      TellsFault (lowest e (lowest f g)) (both (check s Γ (childAt ts 0)) (check s Γ (childAt ts 1)))
+      TellsFault (lowest e (lowest f g)) (bothTyped (check s Γ (childAt ts 0)) (check s Γ (childAt ts 1)))
       × TellsFault (lowest e (lowest f g)) (checkAll s Γ ts)
   unfolding childAt checkAll
   two-children-fault (child-then p (child-then q (other-then none-left))) =
@@ -143,7 +143,7 @@ module _ {s : Script} {Γ : Context} where
 
   three-children-fault :
       {e f g : ℕ} {ts : Terms} → FieldsAnswer s Γ (true ∷ true ∷ true ∷ []) (e ∷ f ∷ g ∷ []) ts →
-      TellsFault (lowest e (lowest f g)) (both (check s Γ (childAt ts 0)) (both (check s Γ (childAt ts 1)) (check s Γ (childAt ts 2))))
+      TellsFault (lowest e (lowest f g)) (bothTyped (check s Γ (childAt ts 0)) (bothTyped (check s Γ (childAt ts 1)) (check s Γ (childAt ts 2))))
       × TellsFault (lowest e (lowest f g)) (checkAll s Γ ts)
   unfolding childAt checkAll
   three-children-fault (child-then p (child-then q (child-then r none-left))) = (
@@ -233,7 +233,7 @@ module _ {s : Script} (ok : Sound s) {Γ : Context} where
   late-types :
       {bs : List Bool} {es : List ℕ} {ts : Terms} → FieldsAnswer s Γ bs es ts → All (λ e. typeBase ≤ e) es →
       (us : List Ty) × (checkAll s Γ ts ≡ typed us) × (allDynamic (count bs) us ≡ allD es)
-  unfolding All checkAll both gather count allD allDynamic
+  unfolding All checkAll bothTyped gather count allD allDynamic
   late-types none-left l = ([], refl, refl)
   late-types (child-then {e = e} p st) l =
       let (us, c, d) = late-types st (l .1) in
@@ -331,7 +331,7 @@ module _ {ls stack : List ℕ} {d i k x p e f g n m : ℕ} (c : n ≡ lowest f g
         })
 
     pub apply-ruled : j ≡ 4 → r ≡ applyAnswer ls i t u → Ruled ls stack d i k x p e f g r
-    unfolding rows build check both rule
+    unfolding rows build check bothTyped rule
     apply-ruled q y =
         let (le, lf, lg) = three-types c a l in
         rw (← jk, q, y, te, uf)
@@ -349,7 +349,7 @@ module _ {ls stack : List ℕ} {d i k x p e f g n m : ℕ} (c : n ≡ lowest f g
         (record { reply = λ words s Γ nd ts lent h b few vis. let (z, kn) = one-typed (vis .fields) le in rw z (fix-answers lent i h (typeIn e) kn) })
 
     pub if-ruled : {o : Bool} → j ≡ 6 → o ≡ (eqb t 0 && eqb u v) → r ≡ givenBy o u i → Ruled ls stack d i k x p e f g r
-    unfolding rows build check both rule
+    unfolding rows build check bothTyped rule
     if-ruled q o y =
         let (le, lf, lg) = three-types c a l in
         rw (← jk, q, y, o, te, uf, vg)
@@ -361,7 +361,7 @@ module _ {ls stack : List ℕ} {d i k x p e f g n m : ℕ} (c : n ≡ lowest f g
         })
 
     pub operation-ruled : {o : Bool} → j ≡ 7 → o ≡ (eqb t 0 && eqb u 0) → r ≡ givenBy o 0 i → Ruled ls stack d i k x p e f g r
-    unfolding rows build check both rule typeCount
+    unfolding rows build check bothTyped rule typeCount
     operation-ruled q o y =
         let (le, lf, lg) = three-types c a l in
         rw (← jk, q, y, o, te, uf)

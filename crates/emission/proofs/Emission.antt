@@ -11,7 +11,7 @@ use Rattle.lambdamix.specs.declared.Use.{Use}
 use Rattle.lambdamix.specs.declared.Use.the-variants.{Child}
 use Rattle.lambdamix.specs.Limits.{maxNodes}
 use Rattle.lambdamix.specs.Script.{Node}
-use Rattle.lambdamix.specs.Code.{Code, Codes, lit, ref, nilC, node, top, after, nodesFrom, allNodesFrom}
+use Rattle.lambdamix.specs.Code.{Code, Codes, lit, ref, nilC, node, lastNode, numberAfter, nodesFrom, allNodesFrom}
 use Rattle.lambdamix.proofs.WrittenTree.{after-last}
 use Rattle.script.specs.File.{nodeBytes, records}
 use Rattle.script.specs.declared.Row.{Row}
@@ -52,7 +52,7 @@ put-node nd h p = put-there (node-sized nd) h p
 pub emits-lit :
     (base k : ℕ) (z : ℤ) {l m m′ : List ℕ} → k + 1 < maxNodes → PutWhole l (base + 13 * k) (nodeBytes (node 0 0 0 0 z)) m →
     PutWhole m (base + 13 * (k + 1)) (nodeBytes (node 2 k 0 0 (pos 0))) m′ → Emits (lit z) base k l m′ (k + 1)
-unfolding top nodesFrom
+unfolding lastNode nodesFrom
 emits-lit base k z h p q =
     record {
       number = add-one k;
@@ -66,8 +66,8 @@ emits-lit base k z h p q =
     }
 
 module _ {c : Code} {z : ℤ} (e : c ≡ lit z) where
-  pub within-constant : (k : ℕ) → top k c < maxNodes → k + 1 < maxNodes
-  unfolding top
+  pub within-constant : (k : ℕ) → lastNode k c < maxNodes → k + 1 < maxNodes
+  unfolding lastNode
   within-constant k h = omega (arith, rw e at h)
 
   pub emits-constant : {y : ℤ} {base k r : ℕ} {l m : List ℕ} → y ≡ z → Emits (lit y) base k l m r → Emits c base k l m r
@@ -75,9 +75,9 @@ module _ {c : Code} {z : ℤ} (e : c ≡ lit z) where
 
 -- a variable's node
 pub emits-variable :
-    {c : Code} {f x base k : ℕ} {l m : List ℕ} → c ≡ ref x → f ≡ x → top k c < maxNodes →
+    {c : Code} {f x base k : ℕ} {l m : List ℕ} → c ≡ ref x → f ≡ x → lastNode k c < maxNodes →
     PutWhole l (base + 13 * k) (nodeBytes (node 1 f 0 0 (pos 0))) m → Emits c base k l m k
-unfolding top nodesFrom
+unfolding lastNode nodesFrom
 emits-variable {f = f} e g h p =
     rw (e, ← g)
     (record {
@@ -88,32 +88,32 @@ emits-variable {f = f} e g h p =
 
 -- ---- fields
 
-after-piece : (u : Use) (c : Code) (cs : Codes) (k : ℕ) → after k (pieceBy u c cs) ≡ after (after k (pieceBy u c nilC)) cs
-unfolding top
-after-piece u c cs k = by-piece u c (λ f. after k (f cs) ≡ after (after k (f nilC)) cs) refl refl
+after-piece : (u : Use) (c : Code) (cs : Codes) (k : ℕ) → numberAfter k (pieceBy u c cs) ≡ numberAfter (numberAfter k (pieceBy u c nilC)) cs
+unfolding lastNode
+after-piece u c cs k = by-piece u c (λ f. numberAfter k (f cs) ≡ numberAfter (numberAfter k (f nilC)) cs) refl refl
 
 nodes-piece :
     (u : Use) (c : Code) (cs : Codes) (k : ℕ) →
-    allNodesFrom k (pieceBy u c nilC) ++ allNodesFrom (after k (pieceBy u c nilC)) cs ≡ allNodesFrom k (pieceBy u c cs)
-unfolding top nodesFrom
+    allNodesFrom k (pieceBy u c nilC) ++ allNodesFrom (numberAfter k (pieceBy u c nilC)) cs ≡ allNodesFrom k (pieceBy u c cs)
+unfolding lastNode nodesFrom
 nodes-piece u c cs k =
-    by-piece u c (λ f. allNodesFrom k (f nilC) ++ allNodesFrom (after k (f nilC)) cs ≡ allNodesFrom k (f cs)) refl (simp append-nil)
+    by-piece u c (λ f. allNodesFrom k (f nilC) ++ allNodesFrom (numberAfter k (f nilC)) cs ≡ allNodesFrom k (f cs)) refl (simp append-nil)
 
 pub emits-none : {base k : ℕ} {l : List ℕ} → EmitsAll nilC base k l l k
-unfolding top nodesFrom records
+unfolding lastNode nodesFrom records
 emits-none = record { next = refl; put = λ f. record { puts = refl } }
 
 -- a field that holds no piece, and one that does
 pub emits-plain : {u : Use} {c : Code} {f base k v : ℕ} {l : List ℕ} → (u ≡ Child → ⊥) → v ≡ fieldBy u f 0 → EmitsField u c f base k l l v k
-emits-plain {u} {c} {f} {k = k} h e = record { value = e ∙ plain u c nilC f (top k c) h .1; pieces = rw (plain u c nilC f 0 h .0) emits-none }
+emits-plain {u} {c} {f} {k = k} h e = record { value = e ∙ plain u c nilC f (lastNode k c) h .1; pieces = rw (plain u c nilC f 0 h .0) emits-none }
 
 module _ {u : Use} (c : Code) (e : u ≡ Child) where
-  pub within-child : (k : ℕ) → after k (pieceBy u c nilC) < maxNodes → top k c < maxNodes
-  unfolding pieceBy top
+  pub within-child : (k : ℕ) → numberAfter k (pieceBy u c nilC) < maxNodes → lastNode k c < maxNodes
+  unfolding pieceBy lastNode
   within-child k h = omega (arith, rw e at h)
 
   pub emits-child : {f base k r : ℕ} {l m : List ℕ} → Emits c base k l m r → EmitsField u c f base k l m r (r + 1)
-  unfolding pieceBy fieldBy top nodesFrom
+  unfolding pieceBy fieldBy lastNode nodesFrom
   emits-child {k = k} {r} a =
       rw e
       (record {
@@ -135,23 +135,23 @@ module _ (self : ℕ → Code) (u : Use) (cs : Codes) {q i : ℕ} (e : q ≡ i) 
       let one = pieceBy u c nilC in
       rw (← e)
       (record {
-        next = s .next ∙ ap (λ (j : ℕ). after j cs) (a .next) ∙ sym (after-piece u c cs k);
+        next = s .next ∙ ap (λ (j : ℕ). numberAfter j cs) (a .next) ∙ sym (after-piece u c cs k);
         put =
             λ f.
             let p = a .put (omega (arith, s .next, after-last cs n)) in
             put-same
             (ap (λ (j : ℕ). records nodeBytes (allNodesFrom k one) ++ records nodeBytes (allNodesFrom j cs)) (a .next)
-            ∙ sym (records-append nodeBytes (allNodesFrom k one) (allNodesFrom (after k one) cs))
+            ∙ sym (records-append nodeBytes (allNodesFrom k one) (allNodesFrom (numberAfter k one) cs))
             ∙ ap (records nodeBytes) (nodes-piece u c cs k))
             (put-nodes base k (allNodesFrom k one) p (a .next ∙ after-last one k) (s .put (omega (arith, put-length p))));
       })
 
   -- where the last node's number is low, so are those before it
-  module _ (k : ℕ) (h : after k (pieceBy u (self i) cs) < maxNodes) where
-    pub within-first : after k (pieceBy u (self q) nilC) < maxNodes
-    within-first = rw e (omega (arith, after-piece u (self i) cs k, after-last cs (after k (pieceBy u (self i) nilC))))
+  module _ (k : ℕ) (h : numberAfter k (pieceBy u (self i) cs) < maxNodes) where
+    pub within-first : numberAfter k (pieceBy u (self q) nilC) < maxNodes
+    within-first = rw e (omega (arith, after-piece u (self i) cs k, after-last cs (numberAfter k (pieceBy u (self i) nilC))))
 
-    pub within-rest : {n : ℕ} → n ≡ after k (pieceBy u (self q) nilC) → after n cs < maxNodes
+    pub within-rest : {n : ℕ} → n ≡ numberAfter k (pieceBy u (self q) nilC) → numberAfter n cs < maxNodes
     within-rest f = rw (f, e) (omega (arith, after-piece u (self i) cs k))
 
 -- ---- a node over pieces
@@ -185,7 +185,7 @@ emits-fields self j x r {k = k} d e f a b c p =
 -- code by its cell's row
 module _ {c : Code} {j x : ℕ} {w : Row} {self : ℕ → Code} (b : ByRow c j w self x) where
   pub emits-row :
-      {base k r : ℕ} {l m : List ℕ} → top k c < maxNodes → EmitsOver (rowPieces w self x) (rowNode j w self x k) base k l m r →
+      {base k r : ℕ} {l m : List ℕ} → lastNode k c < maxNodes → EmitsOver (rowPieces w self x) (rowNode j w self x k) base k l m r →
       Emits c base k l m r
   emits-row {k = k} h s =
       let e = s .number ∙ sym (b .number k) in
@@ -195,5 +195,5 @@ module _ {c : Code} {j x : ℕ} {w : Row} {self : ℕ → Code} (b : ByRow c j w
         put = λ f. put-same (ap (records nodeBytes) (sym (b .nodes k))) (s .put f);
       }
 
-  pub within-row : (k : ℕ) → top k c < maxNodes → after k (rowPieces w self x) < maxNodes
+  pub within-row : (k : ℕ) → lastNode k c < maxNodes → numberAfter k (rowPieces w self x) < maxNodes
   within-row k h = rw (b .number k) at h

@@ -11,7 +11,7 @@ use borrow.Author.Tests.{leb-true, le-leb, lt-leb}
 use Rattle.lambdamix.specs.Limits.{maxNodes, maxHeight}
 use Rattle.lambdamix.specs.Text.{ascii}
 use Rattle.lambdamix.specs.Script.{Script}
-use Rattle.lambdamix.specs.Code.{Code, size, codeHeight, fits, top, nodesFrom, written}
+use Rattle.lambdamix.specs.Code.{Code, size, codeHeight, fits, lastNode, nodesFrom, written}
 use Rattle.lambdamix.specs.Specializing.{finished}
 use Rattle.lambdamix.proofs.Tests.{and-both}
 use Rattle.lambdamix.proofs.WrittenTree.{top-last, nodes-size}
@@ -30,11 +30,11 @@ use Rattle.emission.specs.Emission.{replyOf, outcome}
 
 -- ---- counts
 
-top-count : {n r : ℕ} (c : Code) → n ≡ size c → r ≡ top 0 c → r + 1 ≡ n
+top-count : {n r : ℕ} (c : Code) → n ≡ size c → r ≡ lastNode 0 c → r + 1 ≡ n
 top-count c e f = omega (arith, top-last c 0, nodes-size c 0)
 
 -- the last node's number is below the count of nodes
-pub top-within : {n : ℕ} (c : Code) → n ≡ size c → n ≤ maxNodes → top 0 c < maxNodes
+pub top-within : {n : ℕ} (c : Code) → n ≡ size c → n ≤ maxNodes → lastNode 0 c < maxNodes
 top-within c e h = omega (arith, top-last c 0, nodes-size c 0)
 
 pub fits-small : {n : ℕ} (c : Code) → n ≡ size c → fits c ≡ true → n ≤ maxNodes
@@ -79,7 +79,7 @@ module _ (s : Script) (g : ℕ → ℕ) (count : ℕ) (i : s .inputs ≡ numbere
   -- the nodes have room where the file has
   pub nodes-room :
       {l j k : List ℕ} {base r : ℕ} → fileLength 0 count n ≤ length l → Put l 0 (headRow 0 count n) j →
-      Put j (inputOffset 0 0) (records inputBytes (numbered g 0 count)) k → base ≡ nodeOffset 0 count 0 → r ≡ top 0 c →
+      Put j (inputOffset 0 0) (records inputBytes (numbered g 0 count)) k → base ≡ nodeOffset 0 count 0 → r ≡ lastNode 0 c →
       base + 13 * r + 13 ≤ length k
   unfolding fileLength nodeOffset
   nodes-room h p q b t = omega (arith, h, top-count c e t, put-length p, put-length q)

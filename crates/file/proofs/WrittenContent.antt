@@ -17,7 +17,7 @@ use Rattle.lambdamix.specs.Limits.{maxTypes, maxInputs, maxNodes, maxHeight}
 use Rattle.lambdamix.specs.Refusal.{firstFailing, orElse}
 use Rattle.lambdamix.specs.Script.{Script, Node, rows, rowOf, fields, inputCount, nodeCount, nodeAt, blankNode}
 use Rattle.lambdamix.specs.Term.{Former, applying, fixing, choosing, operating, arity}
-use Rattle.lambdamix.specs.Code.{Code, Codes, nilC, consC, node, formNode, operatorNumber, top, after, tops, nodesFrom, allNodesFrom, written, size}
+use Rattle.lambdamix.specs.Code.{Code, Codes, nilC, consC, node, formNode, operatorNumber, lastNode, numberAfter, lastNodes, nodesFrom, allNodesFrom, written, size}
 use Rattle.lambdamix.specs.Code.{codeHeight, fits}
 use Rattle.lambdamix.proofs.Suits.{Scoped, ScopedAll, lit-scoped, input-scoped, open-scoped, fn-scoped, form-scoped, nil-scoped, cons-scoped}
 use Rattle.lambdamix.proofs.WrittenTree.{top-last, after-last, written-size}
@@ -65,8 +65,8 @@ zero-fits = omega arith
 
 form-good :
     {s : Script} {N : ℕ} {O : List ℕ} {cs : Codes} (t k m : ℕ) (f : Former) → m < 65536 → ScopedAll s N O cs (arity f) →
-    Before m (tops k cs) → Good t (inputCount s) m (formNode f (tops k cs))
-unfolding arity tops formNode nodeFits rowOf rows fields fieldsRight fieldRight
+    Before m (lastNodes k cs) → Good t (inputCount s) m (formNode f (lastNodes k cs))
+unfolding arity lastNodes formNode nodeFits rowOf rows fields fieldsRight fieldRight
 form-good t k m applying l (cons-scoped p (cons-scoped q nil-scoped)) (and-number x (and-number y no-number)) =
     record {
       right = rw (lt-ltb _ _ x, lt-ltb _ _ y);
@@ -97,14 +97,14 @@ form-good t k m (operating o) l (cons-scoped p (cons-scoped q nil-scoped)) (and-
     }
 
 -- pieces only add numbers
-after-grows : (cs : Codes) (k : ℕ) → k ≤ after k cs
+after-grows : (cs : Codes) (k : ℕ) → k ≤ numberAfter k cs
 after-grows cs k = omega (arith, after-last cs k)
 
-tops-before : (cs : Codes) (k m : ℕ) → after k cs ≤ m → Before m (tops k cs)
-unfolding tops top
+tops-before : (cs : Codes) (k m : ℕ) → numberAfter k cs ≤ m → Before m (lastNodes k cs)
+unfolding lastNodes lastNode
 tops-before nilC k m h = no-number
 tops-before (consC c cs) k m h =
-    and-number {i = top k c} (omega (arith, after-grows cs (suc (top k c)))) (tops-before cs (suc (top k c)) m h)
+    and-number {i = lastNode k c} (omega (arith, after-grows cs (suc (lastNode k c)))) (tops-before cs (suc (lastNode k c)) m h)
 
 variable-good : (t n k x : ℕ) → x < 65536 → Good t n k (node 1 x 0 0 (pos 0))
 unfolding nodeFits rowOf rows fields fieldsRight fieldRight
@@ -117,10 +117,10 @@ variable-good t n k x l =
 -- The nodes of scoped code whose constants have 32 bits are good, where their numbers and the names fit 16 bits.
 module _ {s : Script} {N : ℕ} (few : inputCount s ≤ 65536) (names : N ≤ 65536) (t : ℕ) where
   mutual
-    unfolding nodesFrom top nodeFits rowOf rows fields fieldsRight fieldRight
+    unfolding nodesFrom lastNode nodeFits rowOf rows fields fieldsRight fieldRight
 
     nodes-good :
-        {O : List ℕ} {c : Code} (k : ℕ) → Scoped s N O c → CodeFits c → top k c < 65536 →
+        {O : List ℕ} {c : Code} (k : ℕ) → Scoped s N O c → CodeFits c → lastNode k c < 65536 →
         AllGood t (inputCount s) k (nodesFrom k c)
     nodes-good k (lit-scoped {z}) v l =
         and-node {k = k} {nd = node 0 0 0 0 z}
@@ -136,25 +136,25 @@ module _ {s : Script} {N : ℕ} (few : inputCount s ≤ 65536) (names : N ≤ 65
     nodes-good k (input-scoped {x} i) v l = one (node 1 x 0 0 (pos 0)) (variable-good t (inputCount s) k x (omega (arith, i .input)))
     nodes-good k (open-scoped {x} g) v l = one (node 1 x 0 0 (pos 0)) (variable-good t (inputCount s) k x (omega (arith, g .taken)))
     nodes-good k (fn-scoped {x} {c} g p) v l =
-        joined (node 8 x 0 (top k c) (pos 0) ∷ []) (nodes-good k p v (omega arith)) (top-last c k)
-        (one (node 8 x 0 (top k c) (pos 0))
+        joined (node 8 x 0 (lastNode k c) (pos 0) ∷ []) (nodes-good k p v (omega arith)) (top-last c k)
+        (one (node 8 x 0 (lastNode k c) (pos 0))
         (record {
-          right = rw (le-leb (inputCount s) x (g .generated), lt-ltb (top k c) (suc (top k c)) (omega arith));
+          right = rw (le-leb (inputCount s) x (g .generated), lt-ltb (lastNode k c) (suc (lastNode k c)) (omega arith));
           encodable =
               record { kind = omega arith; a = omega (arith, g .taken); b = omega arith; c = omega arith; value = zero-fits };
         }))
     nodes-good k (form-scoped {O} {f} {cs} e ps) v l =
-        joined (formNode f (tops k cs) ∷ []) (all-nodes-good k ps v (omega arith)) (after-last cs k)
-        (one (formNode f (tops k cs))
-        (form-good t k (after k cs) f l (subst (ScopedAll s N O cs) (sym e) ps) (tops-before cs k (after k cs) (le-refl _))))
+        joined (formNode f (lastNodes k cs) ∷ []) (all-nodes-good k ps v (omega arith)) (after-last cs k)
+        (one (formNode f (lastNodes k cs))
+        (form-good t k (numberAfter k cs) f l (subst (ScopedAll s N O cs) (sym e) ps) (tops-before cs k (numberAfter k cs) (le-refl _))))
 
     all-nodes-good :
-        {j : ℕ} {O : List ℕ} {cs : Codes} (k : ℕ) → ScopedAll s N O cs j → CodesFit cs → after k cs < 65536 →
+        {j : ℕ} {O : List ℕ} {cs : Codes} (k : ℕ) → ScopedAll s N O cs j → CodesFit cs → numberAfter k cs < 65536 →
         AllGood t (inputCount s) k (allNodesFrom k cs)
     all-nodes-good k nil-scoped v l = no-node
     all-nodes-good k (cons-scoped {c} {cs} p ps) v l =
-        joined (allNodesFrom (suc (top k c)) cs) (nodes-good k p (v .0) (omega (arith, after-grows cs (suc (top k c))))) (top-last c k)
-        (all-nodes-good (suc (top k c)) ps (v .1) l)
+        joined (allNodesFrom (suc (lastNode k c)) cs) (nodes-good k p (v .0) (omega (arith, after-grows cs (suc (lastNode k c))))) (top-last c k)
+        (all-nodes-good (suc (lastNode k c)) ps (v .1) l)
 
 good-at :
     {t n k : ℕ} {nds : List Node} → AllGood t n k nds → (j : ℕ) → j < length nds → Good t n (k + j) (getD nds j blankNode)

@@ -11,7 +11,7 @@ use Rattle.lambdamix.specs.Term.{Term}
 use Rattle.lambdamix.specs.Types.{Ty}
 use Rattle.lambdamix.specs.Typing.{Context, _∣_⊢_∶_}
 use Rattle.lambdamix.specs.Refusal.{Refusal}
-use Rattle.lambdamix.specs.Checker.{Checked, typed, faulty, lower, lowerBy, both, gather}
+use Rattle.lambdamix.specs.Checker.{Checked, typed, faulty, lower, lowerBy, bothTyped, gather}
 use Rattle.lambdamix.specs.Fault.{Part, HasType, AllTyped, all-typed, and-typed, AtFault, FaultAmong, here, there, Lowest}
 
 -- A right answer: either what it gives is as P asks, there are types and there is no fault; or it tells the lowest fault, and
@@ -77,8 +77,8 @@ module _ {s : Script} {p : Part} {ps : List Part} where
   -- Right answers on the first part and on the rest make a right answer on all.
   pub both-right :
       {B : Type 0} {Q : B → Type 0} {x : Checked Ty} {y : Checked B} → OnTerm s (p .context) (p .term) x → OnParts s ps Q y →
-      OnParts s (p ∷ ps) (λ c. (s ∣ p .context ⊢ p .term ∶ c .0) × Q (c .1)) (both x y)
-  unfolding both
+      OnParts s (p ∷ ps) (λ c. (s ∣ p .context ⊢ p .term ∶ c .0) × Q (c .1)) (bothTyped x y)
+  unfolding bothTyped
   both-right (well a h c) (well b k d) = well (a, b) (and-typed h k) (λ n i. among (c n i) (d n i))
   both-right (well a h c) (ill k m) = ill (λ w. k (rest-typed w)) (rest-lowest m (λ n i w. absurd (c n i w)))
   both-right (ill h l) (well b k d) = ill (λ w. h (first-typed w)) (first-lowest l (λ n i w. absurd (d n i w)))

@@ -14,7 +14,7 @@ use Rattle.lambdamix.specs.Types.{Ty, S, D, _⇒_, sameType, typeOf, lis
 use Rattle.lambdamix.specs.Typing.{Context, bind, typeAt, inputContext, _∣_⊢_∶_, Const, Var, Lift, Abstr, Apply, Fix, If, Op, Abstr-dyn, Dyn}
 use Rattle.lambdamix.specs.Typing.{AllDynamic, nil-dyn, cons-dyn}
 use Rattle.lambdamix.specs.Refusal.{Refusal}
-use Rattle.lambdamix.specs.Checker.{Checked, typed, faulty, both, Verdict, gives, fails, unlisted, own, rule, provided, varRule, liftRule}
+use Rattle.lambdamix.specs.Checker.{Checked, typed, faulty, bothTyped, Verdict, gives, fails, unlisted, own, rule, provided, varRule, liftRule}
 use Rattle.lambdamix.specs.Checker.{abstrBy, abstrRule, applyRule, fixRule, ifRule, opRule, abstrDynRule, allDynamic, dynRule, gather, check, checkAll}
 use Rattle.lambdamix.specs.Checker.{rootRule, checkedRoot, annotationRefusal}
 use Rattle.lambdamix.specs.Fault.{parts, partsAmong, HasType, has-type, AllTyped, all-typed, Unlisted, not-listed, AtFault, own-9, own-10, below}
@@ -45,7 +45,7 @@ sameType-sound (t ⇒ u) (v ⇒ w) e =
 
 -- Completeness: the checker gives every type that can be derived.
 mutual
-  unfolding check checkAll rule own both gather provided varRule liftRule abstrBy abstrRule applyRule fixRule ifRule opRule abstrDynRule
+  unfolding check checkAll rule own bothTyped gather provided varRule liftRule abstrBy abstrRule applyRule fixRule ifRule opRule abstrDynRule
       dynRule allDynamic sameType
 
   pub complete : {s : Script} {Γ : Context} {e : Term} {t : Ty} → s ∣ Γ ⊢ e ∶ t → check s Γ e ≡ typed t

@@ -6,12 +6,12 @@ use Rattle.lambdamix.specs.Script.{inputCount, nodeCount, root, nodeAt, 
 use Rattle.lambdamix.specs.Term.{arity, childAt, operatorOf, build, terms, treeStep, tree, height, nodeOf}
 use Rattle.lambdamix.specs.Types.{sameType, typeBy, typeStep, typeOf, typeCount, someType, listed}
 use Rattle.lambdamix.specs.Typing.{typeAtBy, typeAt, inputTypeBy, inputType, contextFrom, inputContext}
-use Rattle.lambdamix.specs.Checker.{lowerBy, lower, both, own, rule, provided, varRule, liftRule, abstrBy, abstrRule, applyRule, fixRule, ifRule}
+use Rattle.lambdamix.specs.Checker.{lowerBy, lower, bothTyped, own, rule, provided, varRule, liftRule, abstrBy, abstrRule, applyRule, fixRule, ifRule}
 use Rattle.lambdamix.specs.Checker.{opRule, abstrDynRule, allDynamic, dynRule, gather, check, rootRule, checkedRoot, annotationRefusal}
 use Rattle.lambdamix.specs.Refusal.{firstBy, firstFailing, refusedAt, orElse, refusedUnless}
 use Rattle.lambdamix.specs.Structure.{oneIf, occurrences, uses, usedOnce, useRefusal, lowEnough}
 use Rattle.lambdamix.specs.Structure.{heightRefusal, lowestBy, lowest, member, unlessBound, unbound, scopeRefusal, structureRefusal}
-use Rattle.lambdamix.specs.Code.{size, codeHeight, fits, operatorNumber, formNode, top, tops, nodesFrom, written}
+use Rattle.lambdamix.specs.Code.{size, codeHeight, fits, operatorNumber, formNode, lastNode, lastNodes, nodesFrom, written}
 use Rattle.lambdamix.specs.Value.{valueAtBy, valueAt, stopNumber, stopPlace, andThen, _>>=_, give, halt, wantNumber, wantCode, wantFunction, found}
 use Rattle.lambdamix.specs.Evaluation.{jobPlace, exactly, branchBy, branch, fresh, apply, unfoldOnce, visitAll, visited, performed, run}
 use Rattle.lambdamix.specs.Specializing.{inputValue, settingsAfter, environmentFrom, inputEnvironment, staticInputs, rootAnswer, rootRun, specialized}
@@ -24,10 +24,10 @@ use Rattle.lambdamix.specs.Trials.{inputA, inputAWithoutLift, lowestByMi
 unfoldable pub computing : Unit {0}
 unfolding maxTypes maxInputs maxNodes maxHeight maxDepth maxFuel programFuel settle divideBy arithmetic guarded below fallingBy falling
     inputCount nodeCount root nodeAt rows rowOf fields ifChild childFields children arity childAt operatorOf build terms treeStep tree height
-    sameType typeBy typeStep typeOf typeCount someType listed typeAtBy typeAt inputTypeBy inputType contextFrom inputContext lowerBy lower both
+    sameType typeBy typeStep typeOf typeCount someType listed typeAtBy typeAt inputTypeBy inputType contextFrom inputContext lowerBy lower bothTyped
     own rule provided varRule liftRule abstrBy abstrRule applyRule fixRule ifRule opRule abstrDynRule allDynamic dynRule gather check rootRule
     checkedRoot annotationRefusal firstBy firstFailing refusedAt orElse oneIf occurrences uses usedOnce useRefusal lowEnough heightRefusal
-    lowestBy lowest member unlessBound unbound scopeRefusal structureRefusal size codeHeight fits operatorNumber formNode top tops nodesFrom
+    lowestBy lowest member unlessBound unbound scopeRefusal structureRefusal size codeHeight fits operatorNumber formNode lastNode lastNodes nodesFrom
     written valueAtBy valueAt stopNumber stopPlace andThen _>>=_ give halt wantNumber wantCode wantFunction found nodeOf jobPlace exactly
     branchBy branch fresh apply unfoldOnce visitAll visited performed run inputValue settingsAfter environmentFrom inputEnvironment
     staticInputs rootAnswer rootRun specialized refusedUnless callRefusal annotationBy laterRefusal ascii digitsBy digitsStep digits decimal

@@ -17,7 +17,7 @@ use Rattle.lambdamix.specs.Term.{Former, arity, tree}
 use Rattle.lambdamix.specs.Types.{D}
 use Rattle.lambdamix.specs.Typing.{Context, bind, typeAtBy, typeAt, inputTypeBy, inputType, contextFrom, inputContext, _∣_⊢_∶_, Const, Var, Lift}
 use Rattle.lambdamix.specs.Typing.{Abstr-dyn, Dyn, AllDynamic, nil-dyn, cons-dyn}
-use Rattle.lambdamix.specs.Code.{Code, Codes, lit, ref, fn, form, nilC, consC, size, codeHeight, fits, top, written}
+use Rattle.lambdamix.specs.Code.{Code, Codes, lit, ref, fn, form, nilC, consC, size, codeHeight, fits, lastNode, written}
 use Rattle.lambdamix.specs.Refusal.{orElse}
 use Rattle.lambdamix.specs.Structure.{member, structureRefusal}
 use Rattle.lambdamix.specs.Demand.{DynamicInput}
@@ -103,7 +103,7 @@ mutual
       {s : Script} {xs : List ℕ} {cs : Codes} {n : ℕ} (w : Script) (k : ℕ) → AllClosed s xs cs n →
       AllDynamic w (opened xs (inputContext s)) (writtenTerms k cs) n
   all-closed-dynamic w k closed-nil = nil-dyn
-  all-closed-dynamic w k (closed-cons {c} d ds) = cons-dyn (closed-dynamic w k d) (all-closed-dynamic w (suc (top k c)) ds)
+  all-closed-dynamic w k (closed-cons {c} d ds) = cons-dyn (closed-dynamic w k d) (all-closed-dynamic w (suc (lastNode k c)) ds)
 
 pub written-dynamic :
     {c : Code} (s : Script) → Closed s [] c →

@@ -11,7 +11,7 @@ use borrow.Author.Tests.{le-leb, leb-true, ltb-true, ltb-false}
 use Rattle.lambdamix.specs.Limits.{maxHeight}
 use Rattle.lambdamix.specs.Script.{Script, nodeCount, rows, rowOf}
 use Rattle.lambdamix.specs.Term.{build, tree, height, heights}
-use Rattle.lambdamix.specs.Code.{Code, Codes, lit, ref, fn, form, nilC, consC, codeHeight, codeHeights, top, after, nodesFrom, allNodesFrom, written}
+use Rattle.lambdamix.specs.Code.{Code, Codes, lit, ref, fn, form, nilC, consC, codeHeight, codeHeights, lastNode, numberAfter, nodesFrom, allNodesFrom, written}
 use Rattle.lambdamix.specs.Refusal.{refusedAt}
 use Rattle.lambdamix.specs.Structure.{lowEnough, heightRefusal}
 use Rattle.lambdamix.proofs.Tests.{holds-or-fails}
@@ -31,7 +31,7 @@ mutual
 
   heights-of : (cs : Codes) (k : ℕ) → heights (writtenTerms k cs) ≡ codeHeights cs
   heights-of nilC k = refl
-  heights-of (consC c cs) k = ap₂ max (height-of c k) (heights-of cs (suc (top k c)))
+  heights-of (consC c cs) k = ap₂ max (height-of c k) (heights-of cs (suc (lastNode k c)))
 
 module _ (s : Script) where
   -- from k on and below m no tree is higher than h
@@ -40,17 +40,17 @@ module _ (s : Script) where
 
   -- what is low below the last node of a piece is low up to it: there stands the piece's tree
   with-top :
-      {c : Code} (k : ℕ) → WellFormed c → Holds s k (nodesFrom k c) → Low k (top k c) (codeHeight c) →
-      Low k (suc (top k c)) (codeHeight c)
+      {c : Code} (k : ℕ) → WellFormed c → Holds s k (nodesFrom k c) → Low k (lastNode k c) (codeHeight c) →
+      Low k (suc (lastNode k c)) (codeHeight c)
   with-top {c} k w h low i a b =
       ⊎-elim (λ e. le-of-eq (ap height (ap (tree s) e ∙ tree-of s k w h) ∙ height-of c k)) (low i a)
       (eq-or-lt-of-le (omega arith))
 
   -- The trees in a piece that a table holds are no higher than the piece.
   mutual
-    unfolding top nodesFrom codeHeight height build rowOf rows
+    unfolding lastNode nodesFrom codeHeight height build rowOf rows
 
-    low-piece : {c : Code} (k : ℕ) → WellFormed c → Holds s k (nodesFrom k c) → Low k (suc (top k c)) (codeHeight c)
+    low-piece : {c : Code} (k : ℕ) → WellFormed c → Holds s k (nodesFrom k c) → Low k (suc (lastNode k c)) (codeHeight c)
     low-piece k formed-lit h =
         with-top k formed-lit h (λ i a b. rw (tree-at s i _ (h i 0 (omega arith) (omega arith))) (omega arith))
     low-piece k formed-ref h = with-top k formed-ref h (λ i a b. absurd (omega arith))
@@ -61,10 +61,10 @@ module _ (s : Script) where
 
     low-pieces :
         {cs : Codes} {n : ℕ} (k : ℕ) → AllWellFormed cs n → Holds s k (allNodesFrom k cs) →
-        Low k (after k cs) (codeHeights cs)
+        Low k (numberAfter k cs) (codeHeights cs)
     low-pieces k formed-nil h = λ i a b. absurd (omega arith)
     low-pieces k (formed-cons {c} {cs} w ws) h = λ i a b.
-        let m = suc (top k c) in
+        let m = suc (lastNode k c) in
         ⊎-elim
         (λ e. omega (arith, low-piece k w (holds-left s k (nodesFrom k c) _ h) i a (ltb-true i m e)))
         (λ e. omega (arith, low-pieces m ws (holds-right s k m (nodesFrom k c) _ (top-last c k) h) i (ltb-false i m e) b))

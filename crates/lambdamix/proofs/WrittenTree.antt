@@ -13,7 +13,7 @@ use Rattle.lambdamix.specs.Falling.{below}
 use Rattle.lambdamix.specs.Script.{Script, Node, blankNode, nodeAt, nodeCount, root, rows, rowOf, fields, ifChild, childFields, children}
 use Rattle.lambdamix.specs.Term.{Term, Terms, nilT, consT, Former, applying, fixing, choosing, operating, arity, const, var, lifted, dlam, dyn}
 use Rattle.lambdamix.specs.Term.{blankTerm, childAt, operatorOf, build, terms, treeStep, tree}
-use Rattle.lambdamix.specs.Code.{Code, Codes, lit, ref, fn, form, nilC, consC, size, sizes, top, after, tops, operatorNumber, formNode, nodesFrom}
+use Rattle.lambdamix.specs.Code.{Code, Codes, lit, ref, fn, form, nilC, consC, size, sizes, lastNode, numberAfter, lastNodes, operatorNumber, formNode, nodesFrom}
 use Rattle.lambdamix.specs.Code.{allNodesFrom, written}
 use Rattle.lambdamix.proofs.Falling.{falling-step, below-at}
 
@@ -22,12 +22,12 @@ unfoldable mutual
   pub writtenTerm : ℕ → Code → Term
   writtenTerm k (lit z) = lifted (suc k) (const k z)
   writtenTerm k (ref x) = var k x
-  writtenTerm k (fn x c) = dlam (suc (top k c)) x (writtenTerm k c)
-  writtenTerm k (form f cs) = dyn (after k cs) f (writtenTerms k cs)
+  writtenTerm k (fn x c) = dlam (suc (lastNode k c)) x (writtenTerm k c)
+  writtenTerm k (form f cs) = dyn (numberAfter k cs) f (writtenTerms k cs)
 
   pub writtenTerms : ℕ → Codes → Terms
   writtenTerms k nilC = nilT
-  writtenTerms k (consC c cs) = consT (writtenTerm k c) (writtenTerms (suc (top k c)) cs)
+  writtenTerms k (consC c cs) = consT (writtenTerm k c) (writtenTerms (suc (lastNode k c)) cs)
 
 -- every form has as many children as it takes
 mutual
@@ -54,21 +54,21 @@ mutual
 
   all-nodes-size : (cs : Codes) (k : ℕ) → length (allNodesFrom k cs) ≡ sizes cs
   all-nodes-size nilC k = refl
-  all-nodes-size (consC c cs) k = simp length-append (omega (arith, nodes-size c k, all-nodes-size cs (suc (top k c))))
+  all-nodes-size (consC c cs) k = simp length-append (omega (arith, nodes-size c k, all-nodes-size cs (suc (lastNode k c))))
 
 -- `top` is the last of a piece's numbers, and `after` the first behind several pieces.
 mutual
-  unfolding top nodesFrom
+  unfolding lastNode nodesFrom
 
-  pub top-last : (c : Code) (k : ℕ) → suc (top k c) ≡ k + length (nodesFrom k c)
+  pub top-last : (c : Code) (k : ℕ) → suc (lastNode k c) ≡ k + length (nodesFrom k c)
   top-last (lit z) k = omega arith
   top-last (ref x) k = omega arith
   top-last (fn x c) k = simp length-append (omega (arith, top-last c k))
   top-last (form f cs) k = simp length-append (omega (arith, after-last cs k))
 
-  pub after-last : (cs : Codes) (k : ℕ) → after k cs ≡ k + length (allNodesFrom k cs)
+  pub after-last : (cs : Codes) (k : ℕ) → numberAfter k cs ≡ k + length (allNodesFrom k cs)
   after-last nilC k = omega arith
-  after-last (consC c cs) k = simp length-append (omega (arith, top-last c k, after-last cs (suc (top k c))))
+  after-last (consC c cs) k = simp length-append (omega (arith, top-last c k, after-last cs (suc (lastNode k c))))
 
 -- the number that an operator is written as stands for it
 pub operator-read : (o : Operator) → operatorOf (operatorNumber o) ≡ o
@@ -91,8 +91,8 @@ form-builds (operating o) is i ts = ap (λ o′. dyn i (operating o′) ts) (ope
 
 -- Kinds 9 to 12: the children of a form's node are its pieces' last nodes.
 pub form-children :
-    {cs : Codes} (f : Former) (k : ℕ) → AllWellFormed cs (arity f) → children (formNode f (tops k cs)) ≡ tops k cs
-unfolding arity children childFields ifChild fields rowOf rows formNode tops
+    {cs : Codes} (f : Former) (k : ℕ) → AllWellFormed cs (arity f) → children (formNode f (lastNodes k cs)) ≡ lastNodes k cs
+unfolding arity children childFields ifChild fields rowOf rows formNode lastNodes
 form-children applying k (formed-cons c (formed-cons d formed-nil)) = refl
 form-children fixing k (formed-cons c formed-nil) = refl
 form-children choosing k (formed-cons c (formed-cons d (formed-cons e formed-nil))) = refl
@@ -122,30 +122,30 @@ module _ (s : Script) where
 
   -- At the last node of a piece that a table holds stands the piece's tree.
   mutual
-    unfolding writtenTerm top tops nodesFrom build rowOf rows children childFields ifChild fields terms childAt
+    unfolding writtenTerm lastNode lastNodes nodesFrom build rowOf rows children childFields ifChild fields terms childAt
 
-    pub tree-of : {c : Code} (k : ℕ) → WellFormed c → Holds s k (nodesFrom k c) → tree s (top k c) ≡ writtenTerm k c
+    pub tree-of : {c : Code} (k : ℕ) → WellFormed c → Holds s k (nodesFrom k c) → tree s (lastNode k c) ≡ writtenTerm k c
     tree-of k formed-lit h =
         let child = below-at (suc k) blankTerm (tree s) k (omega arith) ∙ tree-at k _ (h k 0 (omega arith) (omega arith)) in
         tree-at (suc k) _ (h (suc k) 1 (omega arith) (omega arith)) ∙ ap (lifted (suc k)) child
     tree-of k formed-ref h = tree-at k _ (h k 0 (omega arith) (omega arith))
     tree-of k (formed-fn {x} {c} w) h =
-        let m = suc (top k c) in
-        let child = below-at m blankTerm (tree s) (top k c) (omega arith) ∙ tree-of k w (holds-left k (nodesFrom k c) _ h) in
+        let m = suc (lastNode k c) in
+        let child = below-at m blankTerm (tree s) (lastNode k c) (omega arith) ∙ tree-of k w (holds-left k (nodesFrom k c) _ h) in
         tree-at m _ (holds-last k m (nodesFrom k c) _ (top-last c k) h) ∙ ap (dlam m x) child
     tree-of k (formed-form {f} {cs} ws) h =
-        let m = after k cs in
+        let m = numberAfter k cs in
         tree-at m _ (holds-last k m (allNodesFrom k cs) _ (after-last cs k) h)
-        ∙ form-builds f (tops k cs) m _
+        ∙ form-builds f (lastNodes k cs) m _
         ∙ ap (dyn m f) (rw (form-children f k ws) (trees-of m k ws (omega arith) (holds-left k (allNodesFrom k cs) _ h)))
 
     trees-of :
-        {cs : Codes} {n : ℕ} (m k : ℕ) → AllWellFormed cs n → after k cs ≤ m → Holds s k (allNodesFrom k cs) →
-        terms (below m blankTerm (tree s)) (tops k cs) ≡ writtenTerms k cs
+        {cs : Codes} {n : ℕ} (m k : ℕ) → AllWellFormed cs n → numberAfter k cs ≤ m → Holds s k (allNodesFrom k cs) →
+        terms (below m blankTerm (tree s)) (lastNodes k cs) ≡ writtenTerms k cs
     trees-of m k formed-nil l h = refl
     trees-of m k (formed-cons {c} {cs} w ws) l h =
-        let j = suc (top k c) in
-        let guarded = below-at m blankTerm (tree s) (top k c) (omega (arith, after-last cs j)) in
+        let j = suc (lastNode k c) in
+        let guarded = below-at m blankTerm (tree s) (lastNode k c) (omega (arith, after-last cs j)) in
         ap₂ consT (guarded ∙ tree-of k w (holds-left k (nodesFrom k c) _ h))
         (trees-of m j ws l (holds-right k j (nodesFrom k c) _ (top-last c k) h))
 
@@ -159,7 +159,7 @@ unfolding written nodeCount
 written-size s c = nodes-size c 0
 
 -- The root of a written script is its code's last node.
-pub written-root : (s : Script) (c : Code) → root (written s c) ≡ top 0 c
+pub written-root : (s : Script) (c : Code) → root (written s c) ≡ lastNode 0 c
 unfolding written root nodeCount
 written-root s c = omega (arith, top-last c 0)
 

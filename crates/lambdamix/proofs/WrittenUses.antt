@@ -8,7 +8,7 @@ use native.Mathlib.Omega.{arith}
 use lib.Dec.{ltb, eqb}
 use borrow.Author.Tests.{ltb-true, ltb-false, eqb-true, eqb-false, lt-ltb, le-ltb, eq-eqb}
 use Rattle.lambdamix.specs.Script.{Script, Node, root, rows, rowOf, fields, ifChild, childFields, children}
-use Rattle.lambdamix.specs.Code.{Code, Codes, top, after, tops, nodesFrom, allNodesFrom, written}
+use Rattle.lambdamix.specs.Code.{Code, Codes, lastNode, numberAfter, lastNodes, nodesFrom, allNodesFrom, written}
 use Rattle.lambdamix.specs.Refusal.{refusedAt}
 use Rattle.lambdamix.specs.Structure.{oneIf, occurrences, uses, usedOnce, useRefusal}
 use Rattle.lambdamix.proofs.Structure.{none-fails}
@@ -37,21 +37,21 @@ under-suc m i = go (ltb i m) (eqb m i) refl refl
 -- The nodes of a piece have i as a child once if i is from the piece's first node on and before its last, else never. Said
 -- as a sum: with 1 for each number before the first node, that is 1 for each number before the last.
 mutual
-  unfolding uses occurrences top tops nodesFrom children childFields ifChild fields rowOf rows
+  unfolding uses occurrences lastNode lastNodes nodesFrom children childFields ifChild fields rowOf rows
 
-  uses-of : {c : Code} (k i : ℕ) → WellFormed c → uses (nodesFrom k c) i + under k i ≡ under (top k c) i
+  uses-of : {c : Code} (k i : ℕ) → WellFormed c → uses (nodesFrom k c) i + under k i ≡ under (lastNode k c) i
   uses-of k i formed-lit = omega (arith, under-suc k i)
   uses-of k i formed-ref = omega arith
-  uses-of k i (formed-fn {c} w) = rw (uses-append (nodesFrom k c)) (omega (arith, uses-of k i w, under-suc (top k c) i))
+  uses-of k i (formed-fn {c} w) = rw (uses-append (nodesFrom k c)) (omega (arith, uses-of k i w, under-suc (lastNode k c) i))
   uses-of k i (formed-form {f} {cs} ws) =
       rw (uses-append (allNodesFrom k cs), form-children f k ws) (omega (arith, all-uses-of k i ws))
 
   all-uses-of :
       {cs : Codes} {n : ℕ} (k i : ℕ) → AllWellFormed cs n →
-      uses (allNodesFrom k cs) i + occurrences i (tops k cs) + under k i ≡ under (after k cs) i
+      uses (allNodesFrom k cs) i + occurrences i (lastNodes k cs) + under k i ≡ under (numberAfter k cs) i
   all-uses-of k i formed-nil = omega arith
   all-uses-of k i (formed-cons {c} {cs} w ws) =
-      rw (uses-append (nodesFrom k c)) (omega (arith, uses-of k i w, all-uses-of (suc (top k c)) i ws, under-suc (top k c) i))
+      rw (uses-append (nodesFrom k c)) (omega (arith, uses-of k i w, all-uses-of (suc (lastNode k c)) i ws, under-suc (lastNode k c) i))
 
 -- A written script passes refusal 6.
 pub written-uses : {c : Code} (s : Script) → WellFormed c → useRefusal (written s c) ≡ none
@@ -61,4 +61,4 @@ written-uses {c} s w = rw (none-fails (usedOnce (written s c)) 0 (root (written 
     once : (i : ℕ) → 0 ≤ i → i < 0 + root (written s c) → usedOnce (written s c) i ≡ true
     once i a b =
         eq-eqb (uses (nodesFrom 0 c) i) 1
-        (omega (arith, rw (le-ltb i 0 a, lt-ltb i (top 0 c) (omega (arith, written-root s c))) at (uses-of 0 i w)))
+        (omega (arith, rw (le-ltb i 0 a, lt-ltb i (lastNode 0 c) (omega (arith, written-root s c))) at (uses-of 0 i w)))

@@ -24,11 +24,11 @@ lowerBy false e f = f
 unfoldable pub lower : Refusal → Refusal → Refusal
 lower e f = lowerBy (leb (e .place) (f .place)) e f
 
-unfoldable pub both : {A B : Type 0} → Checked A → Checked B → Checked (A × B)
-both (typed a) (typed b) = typed (a, b)
-both (typed a) (faulty f) = faulty f
-both (faulty e) (typed b) = faulty e
-both (faulty e) (faulty f) = faulty (lower e f)
+unfoldable pub bothTyped : {A B : Type 0} → Checked A → Checked B → Checked (A × B)
+bothTyped (typed a) (typed b) = typed (a, b)
+bothTyped (typed a) (faulty f) = faulty f
+bothTyped (faulty e) (typed b) = faulty e
+bothTyped (faulty e) (faulty f) = faulty (lower e f)
 
 -- what a step's own rule says once its children have types
 pub data Verdict : Type 0 where
@@ -105,17 +105,17 @@ unfoldable mutual
   check s Γ (var i x) = own i (varRule (typeAt Γ x))
   check s Γ (lifted i e) = rule i liftRule (check s Γ e)
   check s Γ (lam i x p e) = rule i (abstrRule s (typeOf s p)) (check s (bind x (typeOf s p) Γ) e)
-  check s Γ (app i e f) = rule i (λ (p : Ty × Ty). applyRule (p .0) (p .1)) (both (check s Γ e) (check s Γ f))
+  check s Γ (app i e f) = rule i (λ (p : Ty × Ty). applyRule (p .0) (p .1)) (bothTyped (check s Γ e) (check s Γ f))
   check s Γ (fixed i e) = rule i fixRule (check s Γ e)
   check s Γ (cond i e f g) =
-      rule i (λ (p : Ty × (Ty × Ty)). ifRule (p .0) (p .1 .0) (p .1 .1)) (both (check s Γ e) (both (check s Γ f) (check s Γ g)))
-  check s Γ (op i o e f) = rule i (λ (p : Ty × Ty). opRule (p .0) (p .1)) (both (check s Γ e) (check s Γ f))
+      rule i (λ (p : Ty × (Ty × Ty)). ifRule (p .0) (p .1 .0) (p .1 .1)) (bothTyped (check s Γ e) (bothTyped (check s Γ f) (check s Γ g)))
+  check s Γ (op i o e f) = rule i (λ (p : Ty × Ty). opRule (p .0) (p .1)) (bothTyped (check s Γ e) (check s Γ f))
   check s Γ (dlam i x e) = rule i abstrDynRule (check s (bind x D Γ) e)
   check s Γ (dyn i f es) = rule i (dynRule (arity f)) (checkAll s Γ es)
 
   pub checkAll : Script → Context → Terms → Checked (List Ty)
   checkAll s Γ nilT = typed []
-  checkAll s Γ (consT e es) = gather (both (check s Γ e) (checkAll s Γ es))
+  checkAll s Γ (consT e es) = gather (bothTyped (check s Γ e) (checkAll s Γ es))
 
 -- "The root must be D."
 unfoldable pub rootRule : ℕ → Checked Ty → Option Refusal

@@ -9,7 +9,7 @@ use Rattle.lambdamix.specs.declared.Use.{Use}
 use Rattle.lambdamix.proofs.Use.{the-type}
 use Rattle.lambdamix.specs.declared.Use.the-variants.{Nothing, Name, Binder, Child, ParameterType, Operation}
 use Rattle.lambdamix.specs.Script.{stepOf, rows}
-use Rattle.lambdamix.specs.Code.{Code, Codes, consC, formNode, top, after, tops, nodesFrom, allNodesFrom}
+use Rattle.lambdamix.specs.Code.{Code, Codes, consC, formNode, lastNode, numberAfter, lastNodes, nodesFrom, allNodesFrom}
 use Rattle.script.specs.declared.Row.{Row}
 use Rattle.script.specs.Kinds.{usesTable, useOf}
 use Rattle.script.specs.KindRows.{rowAt}
@@ -54,11 +54,11 @@ pub data HasRow : ℕ → Type 0 where
 -- code is that of a cell x of kind j with the row r
 pub record ByRow (c : Code) (j : ℕ) (r : Row) (self : ℕ → Code) (x : ℕ) : Type 0 where
   pub pieces : pieces c ≡ rowPieces r self x
-  pub number : (k : ℕ) → top k c ≡ after k (rowPieces r self x)
+  pub number : (k : ℕ) → lastNode k c ≡ numberAfter k (rowPieces r self x)
   pub nodes : (k : ℕ) → nodesFrom k c ≡ allNodesFrom k (rowPieces r self x) ++ (rowNode j r self x k ∷ [])
 
 pub kind-row : {j : ℕ} → HasRow j → (self : ℕ → Code) (x : ℕ) → ByRow (codeBy (stepOf j) self x) j (rowAt j) self x
-unfolding stepOf codeBy rowAt useOf usesTable rows pieceBy fieldBy rowNode top tops nodesFrom formNode
+unfolding stepOf codeBy rowAt useOf usesTable rows pieceBy fieldBy rowNode lastNode lastNodes nodesFrom formNode
 kind-row variable self x = record { pieces = refl; number = λ k. refl; nodes = λ k. refl }
 kind-row function self x = record { pieces = refl; number = λ k. refl; nodes = λ k. simp append-nil }
 kind-row application self x = record { pieces = refl; number = λ k. refl; nodes = λ k. refl }

@@ -11,7 +11,7 @@ use mir.Facts.{toZ-ofZ}
 use borrow.Fn.Kinds.{In}
 use borrow.Fn.PlainCycle.{Measures, is, falls, and}
 use Rattle.lambdamix.specs.Limits.{maxNodes}
-use Rattle.lambdamix.specs.Code.{after}
+use Rattle.lambdamix.specs.Code.{numberAfter}
 use Rattle.script.specs.declared.Row.{Row}
 use Rattle.script.specs.KindRows.{rowAt}
 use Rattle.residual.specs.Cells.{codeAt, codeBelow, rowPieces, rowNode}
@@ -147,7 +147,7 @@ module _
 
     row-requires :
         (4 * a .p + 2 < t)
-        × (((a .base ≤ maxBase) × (after (a .k .0) (rowPieces r (codeBelow (a .codes .now) (a .p)) (a .x)) < maxNodes))
+        × (((a .base ≤ maxBase) × (numberAfter (a .k .0) (rowPieces r (codeBelow (a .codes .now) (a .p)) (a .x)) < maxNodes))
         × (a .p ≤ length (a .codes .now)))
     row-requires =
         let p = m .before .before .before .pre in
