@@ -11,3 +11,9 @@ pub enum Finish {
     Written(u16),
     Refused(Refusal),
 }
+
+// The reply to a call: the steps and the count of written nodes of finished code; or number and place, with the steps.
+pub enum Reply {
+    Made(u16, u16),
+    Unmade(Refusal, u16),
+}
