@@ -26,11 +26,10 @@ use Rattle.script.specs.Tables.{Tables, over}
 use Rattle.script.proofs.RefusalLaws.{neither}
 use Rattle.file.proofs.FileLaws.{file-refusal, read-written, script-counts, script-passes}
 use Rattle.file.proofs.AcceptedAgain.{written-again, values-fit}
-use Rattle.residual.specs.AfterRun.{nodesIn, made, Made, writtenBy, afterRun}
-use Rattle.specializer.specs.declared.Reply.{Reply}
-use Rattle.specializer.specs.declared.Reply.the-variants as Reply
+use Rattle.residual.specs.declared.Reply.{Reply}
+use Rattle.residual.specs.declared.Reply.the-variants as Reply
+use Rattle.residual.specs.AfterRun.{nodesIn, made, Made, replied, writtenBy, afterRun}
 use Rattle.specializer.specs.Making.{madeUnless, madeFile}
-use Rattle.specializer.specs.Entry.{replied}
 use Rattle.specializer.proofs.Exactly.{made-length, made-file, made-code}
 use Rattle.respond.specs.Response.{programRefusal, programMade, replyText, madeText}
 use Rattle.streams.specs.Lines.{unmadeText, countsText}

@@ -17,9 +17,9 @@ use Rattle.script.specs.File.{headInputs, scriptIn}
 use Rattle.script.specs.Refusals.{fileRefusal}
 use Rattle.script.specs.Tables.{Tables}
 use Rattle.machine.specs.Room.{Stores, storesSuffice}
-use Rattle.specializer.specs.declared.Reply.{Reply}
+use Rattle.residual.specs.declared.Reply.{Reply}
+use Rattle.residual.specs.AfterRun.{given}
 use Rattle.specializer.specs.Making.{refusalBefore, madeUnless, making}
-use Rattle.specializer.specs.Entry.{given}
 use Rattle.streams.specs.Lines.{unmadeText}
 use Rattle.respond.specs.Response.{programRefusal, programMade, replyText, madeText}
 use Rattle.respond.specs.Stages.{Held, MakesGiven}

@@ -11,7 +11,7 @@ use Rattle.script.specs.declared.Counts.{Counts}
 use Rattle.script.specs.Tables.{Tables, over}
 use Rattle.machine.specs.Room.{Stores, stores}
 use Rattle.machine.specs.Room.{storesSuffice}
-use Rattle.specializer.specs.declared.Reply.{Reply}
+use Rattle.residual.specs.declared.Reply.{Reply}
 use Rattle.specializer.specs.Entry.{Makes}
 use Rattle.streams.specs.Given.{programSettings}
 use Rattle.streams.specs.Given.{givenCount, givenSettings}

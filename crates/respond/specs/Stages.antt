@@ -21,10 +21,10 @@ use Rattle.file.specs.Encodable.{AllBytes}
 use Rattle.script.specs.Tables.{Tables, tablesScript, tablesRefusal, longEnough}
 use Rattle.text.specs.Places.{Placed}
 use Rattle.printer.specs.ListCalls.{tablesText}
-use Rattle.specializer.specs.declared.Reply.{Reply}
+use Rattle.residual.specs.declared.Reply.{Reply}
+use Rattle.residual.specs.AfterRun.{given}
 use Rattle.machine.specs.Room.{Stores, storesSuffice}
 use Rattle.specializer.specs.Making.{making, madeFile}
-use Rattle.specializer.specs.Entry.{given}
 use Rattle.respond.specs.Response.{programMade, madeText, response}
 use Rattle.streams.specs.Lines.{unmadeText, countsText}
 use Rattle.streams.specs.Given.{givenSettings}

@@ -15,9 +15,10 @@ use Rattle.script.specs.Tables.{Tables}
 use Rattle.script.specs.Replies.{holding, verdictReply, readingReply, writingReply, Tells, TellsAs, Reads, ReadsAs, WritesText, WritesTextAs}
 use Rattle.script.specs.Replies.{Writes, WritesAs}
 use Rattle.annotation.specs.Checks.{checkRefusal}
-use Rattle.specializer.specs.declared.Reply.{Reply}
+use Rattle.residual.specs.declared.Reply.{Reply}
+use Rattle.residual.specs.AfterRun.{replied}
 use Rattle.machine.specs.Room.{Stores}
-use Rattle.specializer.specs.Entry.{replied, Makes, MakesAs}
+use Rattle.specializer.specs.Entry.{Makes, MakesAs}
 use Rattle.printer.specs.ListCalls.{ListsTables, ListsAs}
 use Rattle.scriptmaker.specs.declared.Counts.{Counts}
 use Rattle.scriptmaker.specs.declared.ReadReply.{ReadReply}

@@ -3,12 +3,13 @@ use crate::Counts;
 use crate::MakeReply;
 use crate::counted;
 use lambdamix::Mode;
-use specializer::Reply;
+use residual::Reply;
 use specializer::make::make;
 ghost use mathlib.Core.Path.{_≡_};
 ghost use Rattle.script.specs.Replies.{holding};
 ghost use Rattle.script.specs.Tables.{tablesOf};
-ghost use Rattle.specializer.specs.Entry.{replied, MakesAs};
+ghost use Rattle.residual.specs.AfterRun.{replied};
+ghost use Rattle.specializer.specs.Entry.{MakesAs};
 ghost use Rattle.scriptmaker.specs.Calls.{countsOf, makeReply};
 ghost use Rattle.machine.specs.Room.{stores};
 

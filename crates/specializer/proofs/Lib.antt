@@ -1,5 +1,3 @@
-pub mod Refusing
-pub mod Running
 pub mod Making
 pub mod Exactly
 pub mod EntryDemand

@@ -2,7 +2,7 @@
 // reader and checker, makes.bin through the maker, inputs.bin through the program's answer. Each record stands behind its length in
 // four bytes.
 mod answers;
-mod calls;
+mod makes;
 mod print;
 mod scripts;
 mod task;
@@ -17,7 +17,7 @@ enum Kind {
 fn try_record(kind: Kind, k: usize, record: &[u8]) {
     match kind {
         Kind::Scripts => scripts::try_script(k, record),
-        Kind::Calls => calls::try_call(k, record),
+        Kind::Calls => makes::try_call(k, record),
         Kind::Inputs => answers::try_input(k, record),
     }
 }

@@ -2,7 +2,7 @@
 use crate::print;
 use crate::task::Task;
 use crate::task::try_file;
-use specializer::Reply;
+use residual::Reply;
 
 fn print_line(k: usize, number: u8, place: usize) {
     print::first(k);

@@ -2,12 +2,12 @@
 use annotation::check::check;
 use lambdamix::Mode;
 use reading::reader::read;
+use residual::Reply;
 use script::Reading;
 use script::Verdict;
 use script::limits::MAX_INPUTS;
 use script::limits::MAX_NODES;
 use script::limits::MAX_TYPES;
-use specializer::Reply;
 use specializer::make::make;
 
 // What a script that was read goes through: the checker, or the maker.

@@ -1,7 +1,6 @@
 -- `scriptmaker::make::reply` meets its contract, case by case. Assumes nothing.
 use borrow.Author.Needs.{needs}
-use Rattle.specializer.specs.Entry.{replied}
-use Rattle.residual.specs.AfterRun.{numberIn, placeIn, stepsIn, nodesIn}
+use Rattle.residual.specs.AfterRun.{numberIn, placeIn, stepsIn, nodesIn, replied}
 use Rattle.scriptmaker.specs.Calls.{makeReply}
 use Rattle.scriptmaker.proofs.make.reply.Statement.{statement}
 use Rattle.scriptmaker.proofs.make.reply.Tie as tie
