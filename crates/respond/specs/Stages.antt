@@ -22,7 +22,7 @@ use Rattle.script.specs.Tables.{Tables, tablesScript, tablesRefusal, longEnough
 use Rattle.text.specs.Places.{Placed}
 use Rattle.printer.specs.ListCalls.{tablesText}
 use Rattle.specializer.specs.declared.Reply.{Reply}
-use Rattle.machine.specs.Room.{Stores, storesSuffice}
+use Rattle.cells.specs.Room.{Stores, storesSuffice}
 use Rattle.specializer.specs.Making.{making, madeFile}
 use Rattle.specializer.specs.Entry.{given}
 use Rattle.respond.specs.Response.{programMade, madeText, response}

@@ -16,7 +16,7 @@ use Rattle.script.specs.Replies.{holding, verdictReply, readingReply, writingRe
 use Rattle.script.specs.Replies.{Writes, WritesAs}
 use Rattle.annotation.specs.Checks.{checkRefusal}
 use Rattle.specializer.specs.declared.Reply.{Reply}
-use Rattle.machine.specs.Room.{Stores}
+use Rattle.cells.specs.Room.{Stores}
 use Rattle.specializer.specs.Entry.{replied, Makes, MakesAs}
 use Rattle.printer.specs.ListCalls.{ListsTables, ListsAs}
 use Rattle.scriptmaker.specs.declared.Counts.{Counts}
