@@ -1,12 +1,9 @@
-pub mod Words
 pub mod Programs
 pub mod Stands
 pub mod Nodes
 pub mod Same
 pub mod Simulation
-pub mod Lookup
 pub mod Sorts
-pub mod States
 pub mod Members
 pub mod Binding
 pub mod Zeros

@@ -1,4 +1,3 @@
-pub mod Room
 pub mod Machine
 pub mod Stores
 pub mod Start

@@ -16,7 +16,7 @@ use Rattle.script.specs.declared.Counts.{Counts}
 use Rattle.script.specs.File.{headInputs, scriptIn}
 use Rattle.script.specs.Refusals.{fileRefusal}
 use Rattle.script.specs.Tables.{Tables}
-use Rattle.machine.specs.Room.{Stores, storesSuffice}
+use Rattle.cells.specs.Room.{Stores, storesSuffice}
 use Rattle.residual.specs.declared.Reply.{Reply}
 use Rattle.residual.specs.AfterRun.{given}
 use Rattle.specializer.specs.Making.{refusalBefore, madeUnless, making}

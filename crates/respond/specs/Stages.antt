@@ -23,7 +23,7 @@ use Rattle.text.specs.Places.{Placed}
 use Rattle.printer.specs.ListCalls.{tablesText}
 use Rattle.residual.specs.declared.Reply.{Reply}
 use Rattle.residual.specs.AfterRun.{given}
-use Rattle.machine.specs.Room.{Stores, storesSuffice}
+use Rattle.cells.specs.Room.{Stores, storesSuffice}
 use Rattle.specializer.specs.Making.{making, madeFile}
 use Rattle.respond.specs.Response.{programMade, madeText, response}
 use Rattle.streams.specs.Lines.{unmadeText, countsText}

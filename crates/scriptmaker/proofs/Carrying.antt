@@ -17,7 +17,7 @@ use Rattle.script.specs.Replies.{Writes, WritesAs}
 use Rattle.annotation.specs.Checks.{checkRefusal}
 use Rattle.residual.specs.declared.Reply.{Reply}
 use Rattle.residual.specs.AfterRun.{replied}
-use Rattle.machine.specs.Room.{Stores}
+use Rattle.cells.specs.Room.{Stores}
 use Rattle.specializer.specs.Entry.{Makes, MakesAs}
 use Rattle.printer.specs.ListCalls.{ListsTables, ListsAs}
 use Rattle.scriptmaker.specs.declared.Counts.{Counts}

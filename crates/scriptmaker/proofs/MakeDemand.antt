@@ -11,7 +11,7 @@ use Rattle.script.specs.Replies.{holding}
 use Rattle.script.specs.Tables.{Tables}
 use Rattle.annotation.specs.Checks.{checkRefusal}
 use Rattle.residual.specs.AfterRun.{Reply, numberIn, stepsIn, nodesIn}
-use Rattle.machine.specs.Room.{Stores}
+use Rattle.cells.specs.Room.{Stores}
 use Rattle.specializer.specs.Entry.{MakesAs}
 use Rattle.specializer.specs.EntryDemand.{KeepsDemandThree}
 use Rattle.specializer.proofs.EntryDemand.{making-keeps}

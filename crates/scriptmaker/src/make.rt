@@ -11,7 +11,7 @@ ghost use Rattle.script.specs.Tables.{tablesOf};
 ghost use Rattle.residual.specs.AfterRun.{replied};
 ghost use Rattle.specializer.specs.Entry.{MakesAs};
 ghost use Rattle.scriptmaker.specs.Calls.{countsOf, makeReply};
-ghost use Rattle.machine.specs.Room.{stores};
+ghost use Rattle.cells.specs.Room.{stores};
 
 fn reply(r: Reply) -> MakeReply
     ensures { λ q. ⌜ q ≡ makeReply (replied r) ⌝ }

@@ -2,7 +2,7 @@
 use mathlib.Core.Path.{refl}
 use native.Mathlib.Omega.{arith}
 use Rattle.lambdamix.specs.Limits.{maxInputs, programFuel}
-use Rattle.machine.specs.Room.{suffices, storesSuffice}
+use Rattle.cells.specs.Room.{suffices, storesSuffice}
 use Rattle.streams.specs.Given.{programSettings}
 use Rattle.streams.proofs.Splitting.{given-most}
 use Rattle.respond.proofs.Settings.{makes-given}
