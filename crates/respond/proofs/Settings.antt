@@ -9,8 +9,7 @@ use Rattle.lambdamix.specs.declared.Mode.the-variants.{Making}
 use Rattle.lambdamix.specs.Limits.{programFuel}
 use Rattle.script.specs.declared.Counts.{Counts}
 use Rattle.script.specs.Tables.{Tables, over}
-use Rattle.cells.specs.Room.{Stores, stores}
-use Rattle.cells.specs.Room.{storesSuffice}
+use Rattle.cells.specs.Room.{Stores, stores, storesSuffice}
 use Rattle.residual.specs.declared.Reply.{Reply}
 use Rattle.specializer.specs.Entry.{Makes}
 use Rattle.streams.specs.Given.{programSettings}
