@@ -17,7 +17,8 @@ use Rattle.lambdamix.specs.Limits.{maxTypes, maxInputs, maxNodes, maxHeight}
 use Rattle.lambdamix.specs.Refusal.{firstFailing, orElse}
 use Rattle.lambdamix.specs.Script.{Script, Node, rows, rowOf, fields, inputCount, nodeCount, nodeAt, blankNode}
 use Rattle.lambdamix.specs.Term.{Former, applying, fixing, choosing, operating, arity}
-use Rattle.lambdamix.specs.Code.{Code, Codes, nilC, consC, node, formNode, operatorNumber, lastNode, numberAfter, lastNodes, nodesFrom, allNodesFrom, written, size}
+use Rattle.lambdamix.specs.Code.{Code, Codes, nilC, consC, node, formNode, operatorNumber, written, size}
+use Rattle.lambdamix.specs.Code.{lastNode, numberAfter, lastNodes, nodesFrom, allNodesFrom}
 use Rattle.lambdamix.specs.Code.{codeHeight, fits}
 use Rattle.lambdamix.proofs.Suits.{Scoped, ScopedAll, lit-scoped, input-scoped, open-scoped, fn-scoped, form-scoped, nil-scoped, cons-scoped}
 use Rattle.lambdamix.proofs.WrittenTree.{top-last, after-last, written-size}

@@ -11,7 +11,8 @@ use borrow.Author.Tests.{le-leb, leb-true, ltb-true, ltb-false}
 use Rattle.lambdamix.specs.Limits.{maxHeight}
 use Rattle.lambdamix.specs.Script.{Script, nodeCount, rows, rowOf}
 use Rattle.lambdamix.specs.Term.{build, tree, height, heights}
-use Rattle.lambdamix.specs.Code.{Code, Codes, lit, ref, fn, form, nilC, consC, codeHeight, codeHeights, lastNode, numberAfter, nodesFrom, allNodesFrom, written}
+use Rattle.lambdamix.specs.Code.{Code, Codes, lit, ref, fn, form, nilC, consC, codeHeight, codeHeights, written}
+use Rattle.lambdamix.specs.Code.{lastNode, numberAfter, nodesFrom, allNodesFrom}
 use Rattle.lambdamix.specs.Refusal.{refusedAt}
 use Rattle.lambdamix.specs.Structure.{lowEnough, heightRefusal}
 use Rattle.lambdamix.proofs.Tests.{holds-or-fails}

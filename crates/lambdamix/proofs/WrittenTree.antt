@@ -13,7 +13,8 @@ use Rattle.lambdamix.specs.Falling.{below}
 use Rattle.lambdamix.specs.Script.{Script, Node, blankNode, nodeAt, nodeCount, root, rows, rowOf, fields, ifChild, childFields, children}
 use Rattle.lambdamix.specs.Term.{Term, Terms, nilT, consT, Former, applying, fixing, choosing, operating, arity, const, var, lifted, dlam, dyn}
 use Rattle.lambdamix.specs.Term.{blankTerm, childAt, operatorOf, build, terms, treeStep, tree}
-use Rattle.lambdamix.specs.Code.{Code, Codes, lit, ref, fn, form, nilC, consC, size, sizes, lastNode, numberAfter, lastNodes, operatorNumber, formNode, nodesFrom}
+use Rattle.lambdamix.specs.Code.{Code, Codes, lit, ref, fn, form, nilC, consC, size, sizes, operatorNumber, formNode}
+use Rattle.lambdamix.specs.Code.{lastNode, numberAfter, lastNodes, nodesFrom}
 use Rattle.lambdamix.specs.Code.{allNodesFrom, written}
 use Rattle.lambdamix.proofs.Falling.{falling-step, below-at}
 

@@ -89,7 +89,9 @@ structure-number s e =
     (λ q. ⊎-elim (λ p. omega (arith, node-number 7 _ p)) (λ p. omega (arith, node-number 8 _ p)) (either-some _ _ q)) (either-some _ _ e)
 
 -- A mark beside all that is refused of records is a mark beside 3 to 5, then 6 to 8.
-marks-between : (m c s : Option Lambdamix.Refusal) → ((f : Lambdamix.Refusal) → c ≡ some f → f .number < 6) → ((f : Lambdamix.Refusal) → s ≡ some f → 6 ≤ f .number)
+marks-between :
+    (m c s : Option Lambdamix.Refusal) → ((f : Lambdamix.Refusal) → c ≡ some f → f .number < 6)
+    → ((f : Lambdamix.Refusal) → s ≡ some f → 6 ≤ f .number)
     → marksFirst m (orElse c s) ≡ orElse (earlier m c) s
 unfolding marksFirst orElse earlier earlierBy
 marks-between none c s h k = refl

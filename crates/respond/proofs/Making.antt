@@ -18,7 +18,7 @@ use Rattle.script.specs.Refusals.{fileRefusal}
 use Rattle.script.specs.Tables.{Tables}
 use Rattle.cells.specs.Room.{Stores, storesSuffice}
 use Rattle.residual.specs.declared.Reply.{Reply}
-use Rattle.residual.specs.AfterRun.{given}
+use Rattle.residual.specs.AfterRun.{callResult}
 use Rattle.specializer.specs.Making.{refusalBefore, madeUnless, making}
 use Rattle.streams.specs.Lines.{unmadeText}
 use Rattle.respond.specs.Response.{programRefusal, programMade, replyText, madeText}
@@ -37,7 +37,7 @@ module _ {bs : List ℕ} {n : Counts} {x : Tables} (h : Held bs n x) where
   -- a file of zeros, with room for every file
   pub program-made :
       {rest file left : List ℕ} {r : Reply} → MakesGiven n x rest file left r → file ≡ replicate maxBytes 0 →
-      given r left ≡ programMade bs rest
+      callResult r left ≡ programMade bs rest
   unfolding programMade programRefusal orElse
   program-made {rest} {file} m e =
       rw (h .read, ← e)

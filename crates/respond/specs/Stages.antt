@@ -22,7 +22,7 @@ use Rattle.script.specs.Tables.{Tables, tablesScript, tablesRefusal, longEnough
 use Rattle.text.specs.Places.{Placed}
 use Rattle.printer.specs.ListCalls.{tablesText}
 use Rattle.residual.specs.declared.Reply.{Reply}
-use Rattle.residual.specs.AfterRun.{given}
+use Rattle.residual.specs.AfterRun.{callResult}
 use Rattle.cells.specs.Room.{Stores, storesSuffice}
 use Rattle.specializer.specs.Making.{making, madeFile}
 use Rattle.respond.specs.Response.{programMade, madeText, response}
@@ -71,7 +71,7 @@ pub record Held (bs : List ℕ) (n : Counts) (x : Tables) : Type 0 where
 pub record MakesGiven (n : Counts) (x : Tables) (rest file made : List ℕ) (r : Reply) : Type 0 where
   pub stores : Stores
   pub enough : storesSuffice programFuel stores ≡ true
-  pub gives : given r made ≡ making Making (n .types) (n .inputs) (n .nodes) x (givenSettings rest) programFuel stores file
+  pub gives : callResult r made ≡ making Making (n .types) (n .inputs) (n .nodes) x (givenSettings rest) programFuel stores file
 
 -- a script that is held is answered, with what follows it
 pub record AnswersScript (n : Counts) (x : Tables) (rest out printed : List ℕ) (r : ℕ) : Type 0 where
