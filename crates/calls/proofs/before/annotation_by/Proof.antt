@@ -28,7 +28,7 @@ returns c = λ ks xs ys zs vs ok p. bare-passes _ _ (search (c .enum-told .given
 returns-2 : tie.Need-returns-2
 returns-2 c =
     λ ks xs ys zs vs ok p.
-    checked _ _ (search (c .before .before .enum-told2 .given .1)) (tells-refusal (c .annotation-refusal .ensures .reply ks xs ys zs vs ok p))
+    checked _ _ (search (c .before .enum-told2 .given .1)) (tells-refusal (c .annotation-refusal .ensures .reply ks xs ys zs vs ok p))
 
 pub annotation-by-spec : {M : Type 1} → statement M
 annotation-by-spec = tie.close (tie.spec (λ c. search needs) (λ c. search needs) (λ c κs. search needs) returns returns-2)
