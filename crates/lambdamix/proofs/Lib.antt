@@ -8,6 +8,8 @@ pub mod LowestFault
 pub mod Traces
 pub mod Agreement
 pub mod Bounds
+pub mod Erasure
+pub mod PlainRun
 pub mod Range
 pub mod Suits
 pub mod Safety

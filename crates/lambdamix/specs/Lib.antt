@@ -14,6 +14,9 @@ pub mod Value
 pub mod Evaluation
 pub mod Rules
 pub mod Specializing
+pub mod Erasure
+pub mod PlainRun
+pub mod PlainRules
 pub mod Demand
 pub mod Text
 pub mod Listing
