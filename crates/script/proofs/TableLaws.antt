@@ -28,6 +28,16 @@ at-every p d [] h e k = h
 at-every p d (x ∷ xs) h e zero = and-both (p x) (every p xs) e .0
 at-every p d (x ∷ xs) h e (suc k) = at-every p d xs h (and-both (p x) (every p xs) e .1) k
 
+-- a number that is none of the first n is past them
+unfoldable pub Other : ℕ → ℕ → Type 0
+Other k zero = Unit {0}
+Other k (suc n) = Other k n × (k ≡ n → ⊥)
+
+pub past : (k n : ℕ) → Other k n → n ≤ k
+unfolding Other
+past k zero o = omega arith
+past k (suc n) o = let h = past k n (o .0) in omega (arith, o .1)
+
 pub past-rows : (k j : ℕ) → 13 ≤ k → useOf k j ≡ Nothing
 unfolding useOf usesTable rows
 past-rows k j h = ap (λ (us : List Use). getD us j Nothing) (List·getD-eq-default usesTable [] h)

@@ -1,24 +1,13 @@
 -- The row that a walk reads at a node in a word: that of its kind, and past the table none. Assumes nothing.
-use Prim.Native.Nat.{ℕ, zero, suc, _≤_}
+use Prim.Native.Nat.{ℕ}
 use mathlib.Core.Path.{_≡_, sym, ap, _∙_}
 use mathlib.Core.List.{[]}
-use native.Mathlib.Omega.{arith}
 use Rattle.lambdamix.specs.declared.Use.the-variants.{Nothing}
 use Rattle.script.specs.declared.Row.{Row}
 use Rattle.script.specs.KindRows.{rowAt}
 use Rattle.script.specs.Words.{wordKind, wordA, wordB, wordC}
 use Rattle.walks.specs.Walks.{keptIf, rowChildren, wordChildren}
-use Rattle.script.proofs.TableLaws.{past-rows}
-
--- a number that is none of the first n is past them
-unfoldable pub Other : ℕ → ℕ → Type 0
-Other k zero = Unit {0}
-Other k (suc n) = Other k n × (k ≡ n → ⊥)
-
-past : (k n : ℕ) → Other k n → n ≤ k
-unfolding Other
-past k zero o = omega arith
-past k (suc n) o = let h = past k n (o .0) in omega (arith, o .1)
+use Rattle.script.proofs.TableLaws.{Other, past, past-rows}
 
 module _ (w : ℕ) {k : ℕ} (kind : k ≡ wordKind w) where
   module _ {m : ℕ} {r : Row} (read : r ≡ rowAt m) (same : k ≡ m) where

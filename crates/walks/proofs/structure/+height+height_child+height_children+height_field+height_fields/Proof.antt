@@ -5,7 +5,8 @@ use mathlib.Core.Path.{sym, _∙_}
 use native.Mathlib.Omega.{arith}
 use borrow.Fn.Kinds.{In}
 use borrow.Fn.PlainCycle.{Measures, is, falls, and}
-use Rattle.walks.proofs.OwnRow.{Other, own-children, no-children}
+use Rattle.script.proofs.TableLaws.{Other}
+use Rattle.walks.proofs.OwnRow.{own-children, no-children}
 use Rattle.walks.proofs.Heights.{height-node, height-stray, over-none, over-child, over-other, over-fields}
 use Rattle.walks.proofs.Heights as heights
 use Rattle.walks.proofs.structure.height.Reads as height

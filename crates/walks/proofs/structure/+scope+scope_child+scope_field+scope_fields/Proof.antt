@@ -9,7 +9,8 @@ use borrow.Fn.PlainCycle.{Measures, is, falls, and}
 use Rattle.lambdamix.proofs.Falling.{below-at}
 use Rattle.script.specs.Words.{columnsIn}
 use Rattle.walks.specs.Walks.{heightAt, unboundField}
-use Rattle.walks.proofs.OwnRow.{Other, own-row, own-children, no-row}
+use Rattle.script.proofs.TableLaws.{Other}
+use Rattle.walks.proofs.OwnRow.{own-row, own-children, no-row}
 use Rattle.walks.proofs.Scopes.{kept-all, scoped-none, scoped-child, scoped-stray, scoped-fields, scoped-row, scoped-past, room-row, room-a, room-b}
 use Rattle.walks.proofs.Scopes.{room-c, room-child}
 use Rattle.walks.proofs.structure.scope.Reads as scope

@@ -2,7 +2,8 @@
 use borrow.Author.Needs.{needs}
 use native.Mathlib.Omega.{arith}
 use Rattle.lambdamix.specs.Structure.{occurrences}
-use Rattle.walks.proofs.OwnRow.{Other, own-children, no-children}
+use Rattle.script.proofs.TableLaws.{Other}
+use Rattle.walks.proofs.OwnRow.{own-children, no-children}
 use Rattle.walks.proofs.UseCounts.{counted-none}
 use Rattle.walks.proofs.structure.count_node.Statement.{statement}
 use Rattle.walks.proofs.structure.count_node.Tie as tie
