@@ -1,9 +1,10 @@
 -- What it means that refusals 3 to 8 do not hold of a script: its counts are within their limits, each record fits, each node but the
--- root is the child of one place, and no tree is too high. Assumes nothing.
+-- root is the child of one place, and no tree is too high; and what refusals 1 to 8 say so of tables. Assumes nothing.
 use Prim.Native.Nat.{ℕ, _≤_, _<_}
 use mathlib.Core.Path.{_≡_}
 use mathlib.Core.Bool.{true}
 use mathlib.Core.Option.{none}
+use native.Mathlib.Omega.{arith}
 use lib.ListN.{length, getD}
 use lib.Dec.{leb}
 use borrow.Author.Tests.{leb-true, eqb-true}
@@ -14,6 +15,8 @@ use Rattle.lambdamix.specs.Types.{blankType}
 use Rattle.lambdamix.specs.Structure.{uses, usedOnce, useRefusal, lowEnough, heightRefusal, structureRefusal}
 use Rattle.lambdamix.proofs.Tests.{and-both}
 use Rattle.script.specs.Refusals.{countsRight, typeFits, inputFits, nodeFits, contentOf, contentRefusal, scriptRefusal}
+use Rattle.script.specs.Tables.{Tables, rowNode, tablesScript, tablesRefusal}
+use Rattle.script.proofs.Rows.{type-count, input-count, node-count, node-row}
 use Rattle.script.proofs.RefusalLaws.{neither, not-refused, no-node, no-record, passes}
 
 -- what right counts say
@@ -55,3 +58,25 @@ sound s e =
       once = λ j w. eqb-true _ 1 (passes _ _ (no-node _ _ used) j w);
       within-height = λ j w. leb-true _ _ (passes _ _ (no-node _ _ (neither _ _ tall .0)) j w);
     }
+
+-- ---- tables of which none of refusals 1 to 8 holds
+
+module _ (t i n : ℕ) (x : Tables) (e : tablesRefusal t i n x ≡ none) where
+  pub tables-sound : Sound (tablesScript t i n x)
+  unfolding tablesRefusal
+  tables-sound = sound _ (neither _ _ e .1)
+
+  pub nodes-right : (j : ℕ) → j < n → nodeFits t i (rowNode x) j ≡ true
+  unfolding nodeFits tablesScript
+  nodes-right j l =
+      rw (← type-count t i n x, ← input-count t i n x, ← node-row t i n x j l)
+      (tables-sound .nodes-fit j (omega (arith, node-count t i n x, l)))
+
+  pub inputs-few : i ≤ maxInputs
+  inputs-few = omega (arith, input-count t i n x, tables-sound .within .inputs)
+
+  pub node-there : 0 < n
+  node-there = omega (arith, node-count t i n x, tables-sound .within .some-node)
+
+  pub nodes-few : n ≤ maxNodes
+  nodes-few = omega (arith, node-count t i n x, tables-sound .within .nodes)
