@@ -1,4 +1,3 @@
-pub mod Signs
 pub mod WordLaws
 pub mod NodeLaws
 pub mod Trees

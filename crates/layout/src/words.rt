@@ -2,10 +2,10 @@
 use crate::Word;
 use script::Name;
 use text::Part;
+use text::parts::decimal;
 ghost use mathlib.Core.Path.{_≡_};
 ghost use mathlib.Core.List.{[], _∷_};
 ghost use Rattle.lambdamix.specs.Term.{operatorOf};
-ghost use Rattle.lambdamix.specs.Text.{decimal};
 ghost use Rattle.lambdamix.specs.Listing.{nameText, operatorText};
 ghost use Rattle.text.specs.Parts.{partText};
 ghost use Rattle.layout.specs.Nodes.{wordOf, wordText, framed};
@@ -47,16 +47,6 @@ fn sign(operator: u16) -> u8
         return b'+';
     }
     SIGNS[o]
-}
-
-// "Signed decimals", the least number too.
-fn decimal(z: i32) -> Part
-    ensures { λ r. ⌜ partText r ≡ decimal z ⌝ }
-{
-    if z < 0 {
-        return Part::Prefixed(b'-', (-(z as i64)) as u64);
-    }
-    Part::Number(z as u64)
 }
 
 // What stands first in the text of a node of field c and a value.

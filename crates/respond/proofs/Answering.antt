@@ -34,9 +34,10 @@ use Rattle.specializer.proofs.Exactly.{made-length, made-file, made-code}
 use Rattle.respond.specs.Response.{programRefusal, programMade, replyText, madeText}
 use Rattle.streams.specs.Lines.{unmadeText, countsText}
 use Rattle.streams.specs.Input.{settings}
-use Rattle.respond.specs.Stages.{PrintsMade, MakesGiven, AnswersScript}
+use Rattle.streams.specs.Answers.{AnswersScript}
+use Rattle.respond.specs.Stages.{PrintsMade, MakesGiven, madeTexts}
 use Rattle.streams.specs.Printed.{Prints}
-use Rattle.respond.proofs.Files.{few-inputs}
+use Rattle.streams.proofs.Files.{few-inputs}
 use Rattle.respond.proofs.GivenSettings.{settings-fit}
 use Rattle.respond.proofs.Making.{program-made}
 
@@ -99,13 +100,13 @@ module _ {n : Counts} {x : Tables} {rest file left : List ℕ} {reply : Reply} (
   -- the maker told number and place
   pub answered-unmade :
       {f : Told.Refusal} {k : ℕ} → reply ≡ Reply.Unmade f k → Prints (unmadeText (ltb (f .number) 20) (f .number) (f .place)) out printed r →
-      AnswersScript n x rest out printed r
+      AnswersScript madeTexts n x rest out printed r
   unfolding replied madeText replyText
   answered-unmade q p = record { answers = λ bs h all long. rw (← program-made h m zeros, q) p }
 
   -- the maker wrote a file
   pub answered-made :
-      {k l : ℕ} → reply ≡ Reply.Made k l → PrintsMade (n .inputs) k l left out printed r → AnswersScript n x rest out printed r
+      {k l : ℕ} → reply ≡ Reply.Made k l → PrintsMade (n .inputs) k l left out printed r → AnswersScript madeTexts n x rest out printed r
   unfolding replied headCounts madeText replyText
   answered-made {k} {l} q p = record {
     answers = λ bs h all long.

@@ -1,4 +1,4 @@
--- Tables that the reader filled hold the file, and its listing is printed behind the counts. Assumes nothing.
+-- A file that passes 1 to 8 is read, and its listing is printed behind the counts. Assumes nothing.
 use Prim.Native.Nat.{ℕ, _-_, _≤_, min}
 use mathlib.Core.Path.{_≡_, refl, sym, ap, _∙_, subst}
 use mathlib.Core.Bool.{true}
@@ -28,44 +28,11 @@ use Rattle.printer.specs.ListCalls.{tablesText}
 use Rattle.text.proofs.Writing.{join}
 use Rattle.printer.proofs.ListingBound.{listing-bytes}
 use Rattle.specializer.specs.Making.{madeFile}
-use Rattle.respond.specs.Stages.{listingBytes, ListsAt, ListsReading, ListsFile, PrintsMade, Held}
+use Rattle.respond.specs.Stages.{listingBytes, ListsAt, ListsReading, ListsFile, PrintsMade}
 use Rattle.streams.specs.Printed.{linesBytes, CountsPlaced}
-use Rattle.respond.proofs.Files.{file-counts, long-for, held-passes}
+use Rattle.streams.proofs.Files.{file-counts, held-passes}
+use Rattle.streams.proofs.ReaderAnswers.{one-count, refused-not-read, passed-read, held}
 use Rattle.streams.proofs.Splitting.{front-part}
-
--- ---- the reader's answer, where the tables are long enough for every file
-
-pub refused-not-read : {f : Told.Refusal} {n : Counts} → Reading.Refused f ≡ Reading.Read n → ⊥
-refused-not-read e = let z : _≡_ {A = ℕ} 0 1 = cc in omega arith
-
-pub one-count : {told : Reading} {n m : Counts} → told ≡ Reading.Read n → told ≡ Reading.Read m → n ≡ m
-one-count {n = n} {m = m} o q = let u : Reading.Read n ≡ Reading.Read m = sym o ∙ q in cc
-
-module _ {bs : List ℕ} {x y : Tables} {r : Reading} (room : longEnough maxTypes maxInputs maxNodes x ≡ true) (reads : Reads bs x y r) where
-  not-short : fileRefusal bs ≡ none → readRefusal bs x ≡ none
-  unfolding readRefusal refusedUnless orElse
-  not-short e = rw (e, long-for (headTypes bs) (headInputs bs) (headNodes bs) x (file-counts bs e) room)
-
-  pub passed-read : fileRefusal bs ≡ none → r ≡ Reading.Read (headCounts bs)
-  unfolding reading headCounts
-  passed-read e = rw (not-short e) at (read-answer reads)
-
-  pub refused-read :
-      {f : Refusal} → fileRefusal bs ≡ some f → r ≡ Reading.Refused (record { number = f .number; place = f .place })
-  unfolding readRefusal reading orElse
-  refused-read e = rw e at (read-answer reads)
-
-  pub held : AllBytes bs → fileRefusal bs ≡ none → Held bs (headCounts bs) y
-  unfolding readTables headCounts
-  held all e =
-      let tables : y ≡ filled (scriptIn bs) x = rw (not-short e) at (reads .tables) in
-      record {
-        bytes = all;
-        read = e;
-        counts = refl;
-        script = rw tables (file-held bs x);
-        room = rw tables (filled-long maxTypes maxInputs maxNodes (scriptIn bs) x room);
-      }
 
 -- ---- the listing of a file
 

@@ -1,10 +1,8 @@
 pub mod Settings
 pub mod Listed
 pub mod GivenSettings
-pub mod Files
 pub mod Holding
 pub mod Making
 pub mod Answering
-pub mod Responding
 pub mod Longer
 pub mod InputA

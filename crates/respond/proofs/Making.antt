@@ -22,8 +22,10 @@ use Rattle.residual.specs.AfterRun.{callResult}
 use Rattle.specializer.specs.Making.{refusalBefore, madeUnless, making}
 use Rattle.streams.specs.Lines.{unmadeText}
 use Rattle.respond.specs.Response.{programRefusal, programMade, replyText, madeText}
-use Rattle.respond.specs.Stages.{Held, MakesGiven}
-use Rattle.respond.proofs.Files.{few-inputs, held-passes}
+use Rattle.streams.specs.Held.{Held}
+use Rattle.respond.specs.Stages.{MakesGiven, madeTexts}
+use Rattle.streams.proofs.Files.{few-inputs, held-passes}
+use Rattle.streams.proofs.Responding.{TellsRefused}
 use Rattle.respond.proofs.GivenSettings.{given-made}
 
 module _ {bs : List ℕ} {n : Counts} {x : Tables} (h : Held bs n x) where
@@ -43,8 +45,12 @@ module _ {bs : List ℕ} {n : Counts} {x : Tables} (h : Held bs n x) where
       rw (h .read, ← e)
       (m .gives ∙ making-is _ (m .stores) file (m .enough) ∙ given-made (scriptIn bs) file (few-inputs bs (h .read)) rest)
 
-pub refused-text :
-    (file rest : List ℕ) (f : Refusal) → fileRefusal file ≡ some f →
-    madeText (headInputs file) (programMade file rest) ≡ unmadeText (ltb (f .number) 20) (f .number) (f .place)
+-- a file that is refused is told as it is
+pub tells-refused : TellsRefused madeTexts
 unfolding madeText programMade programRefusal orElse madeUnless replyText
-refused-text file rest f e = rw e
+tells-refused = record { told = refused-text }
+  where
+    refused-text :
+        (file rest : List ℕ) (f : Refusal) → fileRefusal file ≡ some f →
+        madeText (headInputs file) (programMade file rest) ≡ unmadeText (ltb (f .number) 20) (f .number) (f .place)
+    refused-text file rest f e = rw e

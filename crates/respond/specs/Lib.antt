@@ -1,3 +1,2 @@
 pub mod Response
-pub mod Responds
 pub mod Stages

@@ -1,4 +1,4 @@
--- What the stages of `respond` promise: listings printed, a script answered. Assumes nothing.
+-- What the stages of `respond` promise: listings printed, the maker called. Assumes nothing.
 use Prim.Native.Nat.{ℕ, _+_, _*_, _≤_}
 use mathlib.Core.Path.{_≡_}
 use mathlib.Core.Bool.{true}
@@ -7,28 +7,26 @@ use mathlib.Core.Option.{none}
 use lib.ListN.{length}
 use lib.Dec.{ltb}
 use Rattle.lambdamix.specs.declared.Mode.the-variants.{Making}
-use Rattle.lambdamix.specs.Limits.{maxTypes, maxInputs, maxNodes, programFuel, maxBytes}
+use Rattle.lambdamix.specs.Limits.{maxNodes, programFuel, maxBytes}
 use Rattle.lambdamix.specs.Script.{Script}
 use Rattle.lambdamix.specs.Listing.{listing}
 use Rattle.script.specs.declared.Counts.{Counts}
-use Rattle.script.specs.declared.Refusal.{Refusal}
 use Rattle.script.specs.declared.Reading.{Reading}
 use Rattle.script.specs.declared.Reading.the-variants as Reading
 use Rattle.script.specs.File.{headInputs, scriptIn}
 use Rattle.script.specs.Refusals.{fileRefusal}
-use Rattle.script.specs.Replies.{headCounts}
-use Rattle.file.specs.Encodable.{AllBytes}
-use Rattle.script.specs.Tables.{Tables, tablesScript, tablesRefusal, longEnough}
+use Rattle.script.specs.Tables.{Tables, tablesRefusal}
 use Rattle.text.specs.Places.{Placed}
 use Rattle.printer.specs.ListCalls.{tablesText}
 use Rattle.residual.specs.declared.Reply.{Reply}
 use Rattle.residual.specs.AfterRun.{callResult}
 use Rattle.cells.specs.Room.{Stores, storesSuffice}
 use Rattle.specializer.specs.Making.{making, madeFile}
-use Rattle.respond.specs.Response.{programMade, madeText, response}
+use Rattle.respond.specs.Response.{programMade, madeText}
 use Rattle.streams.specs.Lines.{unmadeText, countsText}
 use Rattle.streams.specs.Given.{givenSettings}
 use Rattle.streams.specs.Printed.{Prints}
+use Rattle.streams.specs.Answers.{Texts}
 
 -- the most bytes of the listing of a file that passes 1 to 8
 unfoldable pub listingBytes : ℕ
@@ -59,31 +57,16 @@ pub record PrintsMade (inputs k n : ℕ) (file before after : List ℕ) (r : ℕ
       fileRefusal (madeFile inputs n file) ≡ none → maxBytes ≤ length before →
       Prints (countsText k n ++ listing (scriptIn (madeFile inputs n file))) before after r
 
--- counts and tables hold a file that passes 1 to 8, and are long enough for every file
-pub record Held (bs : List ℕ) (n : Counts) (x : Tables) : Type 0 where
-  pub bytes : AllBytes bs
-  pub read : fileRefusal bs ≡ none
-  pub counts : n ≡ headCounts bs
-  pub script : tablesScript (n .types) (n .inputs) (n .nodes) x ≡ scriptIn bs
-  pub room : longEnough maxTypes maxInputs maxNodes x ≡ true
-
 -- the maker's call with the settings that follow a script, on stores that suffice
 pub record MakesGiven (n : Counts) (x : Tables) (rest file made : List ℕ) (r : Reply) : Type 0 where
   pub stores : Stores
   pub enough : storesSuffice programFuel stores ≡ true
   pub gives : callResult r made ≡ making Making (n .types) (n .inputs) (n .nodes) x (givenSettings rest) programFuel stores file
 
--- a script that is held is answered, with what follows it
-pub record AnswersScript (n : Counts) (x : Tables) (rest out printed : List ℕ) (r : ℕ) : Type 0 where
-  pub answers :
-      (bs : List ℕ) → Held bs n x → AllBytes rest → maxBytes ≤ length out →
-      Prints (madeText (headInputs bs) (programMade bs rest)) out printed r
-
--- the reader's answer is answered: a refusal is told as it is
-pub record AnswersReading (told : Reading) (x : Tables) (rest out printed : List ℕ) (r : ℕ) : Type 0 where
-  pub refused : (f : Refusal) → told ≡ Reading.Refused f → Prints (unmadeText (ltb (f .number) 20) (f .number) (f .place)) out printed r
-  pub read : (n : Counts) → told ≡ Reading.Read n → AnswersScript n x rest out printed r
-
--- an input is answered
-pub record Answers (input out printed : List ℕ) (r : ℕ) : Type 0 where
-  pub answers : maxBytes ≤ length out → Prints (response input) out printed r
+-- what `benchmake` prints
+abbrev pub madeTexts : Texts
+madeTexts =
+    record {
+      answer = λ file rest. madeText (headInputs file) (programMade file rest);
+      refusal = λ number place. unmadeText (ltb number 20) number place;
+    }

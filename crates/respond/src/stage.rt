@@ -22,7 +22,8 @@ use streams::settings::settings_given;
 use text::parts::further;
 use text::parts::least;
 ghost use Rattle.script.specs.Tables.{tablesOf};
-ghost use Rattle.respond.specs.Stages.{MakesGiven, ListsReading, ListsFile, PrintsMade, AnswersReading};
+ghost use Rattle.streams.specs.Answers.{AnswersReading};
+ghost use Rattle.respond.specs.Stages.{MakesGiven, ListsReading, ListsFile, PrintsMade, madeTexts};
 
 // The maker on a script that was read, with the settings that follow it and stores that start as zeros.
 fn make_given(
@@ -171,7 +172,7 @@ pub(crate) fn answer_script(
     values: &[i32],
     out: &mut [u8],
 ) -> usize
-    ensures { λ r. ⌜ AnswersReading told (tablesOf (now (parameters .entry)) (now (results .entry)) (now (inputs .entry)) (now (kinds .entry)) (now (a .entry)) (now (b .entry)) (now (c .entry)) (now (values .entry))) (now (rest .entry)) (now (out .entry)) (now (out .exit)) r ⌝ }
+    ensures { λ r. ⌜ AnswersReading madeTexts told (tablesOf (now (parameters .entry)) (now (results .entry)) (now (inputs .entry)) (now (kinds .entry)) (now (a .entry)) (now (b .entry)) (now (c .entry)) (now (values .entry))) (now (rest .entry)) (now (out .entry)) (now (out .exit)) r ⌝ }
 {
     match told {
         Reading::Refused(f) => print_unmade(out, f.number, f.place),

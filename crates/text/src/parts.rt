@@ -5,7 +5,7 @@ use script::column;
 ghost use mathlib.Core.Path.{_≡_};
 ghost use Prim.Native.Nat.{_+_, min};
 ghost use mathlib.Core.List.{[], _∷_};
-ghost use Rattle.lambdamix.specs.Text.{digits};
+ghost use Rattle.lambdamix.specs.Text.{digits, decimal};
 ghost use Rattle.text.specs.Places.{Put, Placed, most};
 ghost use Rattle.text.specs.Parts.{partText};
 
@@ -86,6 +86,16 @@ fn put_prefixed(out: &mut [u8], letter: u8, x: u64) -> usize
 {
     column::put8(out, 0, letter);
     digits_at(out, 1, x)
+}
+
+// "Signed decimals", the least number too.
+pub fn decimal(z: i32) -> Part
+    ensures { λ r. ⌜ partText r ≡ decimal z ⌝ }
+{
+    if z < 0 {
+        return Part::Prefixed(b'-', (-(z as i64)) as u64);
+    }
+    Part::Number(z as u64)
 }
 
 // The text of a part.

@@ -6,7 +6,8 @@ use Rattle.script.specs.Columns.{enough}
 use Rattle.script.specs.Bytes.{byteAt}
 use Rattle.script.specs.Tables.{longEnough}
 use Rattle.streams.proofs.Splitting.{from-start, end-within}
-use Rattle.respond.proofs.Responding.{input-answered}
+use Rattle.streams.proofs.Responding.{input-answered}
+use Rattle.respond.proofs.Making.{tells-refused}
 use Rattle.respond.proofs.answer.answer.Statement.{statement}
 use Rattle.respond.proofs.answer.answer.Tie as tie
 
@@ -16,7 +17,7 @@ returns c =
     let s = c .before .before .before .before .before .before .before .before .before .before .before .before .before .before .before .before in
     let h = s .before .before .before .before .before .before .before .before .before .before .before .before .before .before .before in
     let e = h .script-end .ensures in
-    input-answered _ refl e (s .before .before .before .before .before .read .ensures) (omega (arith, e))
+    input-answered _ tells-refused _ refl e (s .before .before .before .before .before .read .ensures) (omega (arith, e))
     (record { below = λ i. omega (arith, h .before .before .shared-slice-known .given i) })
     (c .before .before .answer-script .ensures)
 

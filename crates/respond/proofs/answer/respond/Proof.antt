@@ -1,13 +1,14 @@
 -- `respond::answer::respond` meets its contract: the output is long enough for every answer, or 21. Assumes nothing.
 use native.Mathlib.Omega.{arith}
 use Rattle.lambdamix.specs.Limits.{maxBytes}
-use Rattle.respond.proofs.Responding.{call-answered, call-short}
+use Rattle.streams.proofs.Responding.{call-answered, call-short}
+use Rattle.respond.specs.Response.{response}
 use borrow.Author.Needs.{needs}
 use Rattle.respond.proofs.answer.respond.Statement.{statement}
 use Rattle.respond.proofs.answer.respond.Tie as tie
 
 returns : tie.Need-returns
-unfolding maxBytes
+unfolding maxBytes response
 returns c = call-answered (omega arith) (omega (arith, c .before .before .before .before .before .before .before .good)) (c .before .before .answer .ensures)
 
 returns-2 : tie.Need-returns-2

@@ -2,7 +2,7 @@
 use mathlib.Core.Path.{refl, sym}
 use Rattle.lambdamix.specs.Limits.{maxBytes}
 use Rattle.respond.proofs.Answering.{answered-unmade, answered-made}
-use Rattle.respond.proofs.Responding.{answered-read, answered-refused}
+use Rattle.streams.proofs.Responding.{answered-read, answered-refused}
 use Rattle.respond.proofs.stage.answer_script.Statement.{statement}
 use Rattle.respond.proofs.stage.answer_script.Tie as tie
 

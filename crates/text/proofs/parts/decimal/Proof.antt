@@ -1,8 +1,8 @@
--- `layout::words::decimal` meets its contract. Assumes nothing.
+-- `text::parts::decimal` meets its contract. Assumes nothing.
 use Rattle.lambdamix.proofs.Signed.{widens}
-use Rattle.layout.proofs.Signs.{negation-stays, signed, unsigned}
-use Rattle.layout.proofs.words.decimal.Statement.{statement}
-use Rattle.layout.proofs.words.decimal.Tie as tie
+use Rattle.text.proofs.Signs.{negation-stays, signed, unsigned}
+use Rattle.text.proofs.parts.decimal.Statement.{statement}
+use Rattle.text.proofs.parts.decimal.Tie as tie
 
 pub decimal-spec : {M : Type 1} → statement M
 decimal-spec =

@@ -20,7 +20,7 @@ use Rattle.script.proofs.RefusalLaws.{neither, pass-over}
 use Rattle.script.proofs.Sound.{in-limits}
 use Rattle.file.proofs.FileLaws.{script-counts, script-passes}
 use Rattle.reading.proofs.ReaderLaws.{head-passes}
-use Rattle.respond.specs.Stages.{Held}
+use Rattle.streams.specs.Held.{Held}
 
 pub file-counts : (bs : List ℕ) → fileRefusal bs ≡ none → countsRight (headTypes bs) (headInputs bs) (headNodes bs) ≡ true
 unfolding fileRefusal
