@@ -6,7 +6,7 @@ use Rattle.calls.proofs.before.call_refusal.Tie as tie
 
 returns : tie.Need-returns
 unfolding callRefusal
-returns c = λ s zs i l. rw (i, ← c .before .before .static-inputs .ensures) (c .given-refusal .ensures zs l)
+returns c = λ s zs i l. rw (i, ← c .before .static-inputs .ensures) (c .given-refusal .ensures zs l)
 
 pub call-refusal-spec : {M : Type 1} → statement M
 call-refusal-spec = tie.close (tie.spec (λ c κs. search needs) (λ c. search needs) (λ c κs. search needs) returns)
