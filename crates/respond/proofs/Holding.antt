@@ -30,6 +30,7 @@ use Rattle.printer.proofs.ListingBound.{listing-bytes}
 use Rattle.specializer.specs.Making.{madeFile}
 use Rattle.respond.specs.Stages.{listingBytes, ListsAt, ListsReading, ListsFile, PrintsMade}
 use Rattle.streams.specs.Printed.{linesBytes, CountsPlaced}
+use Rattle.streams.specs.Held.{Held}
 use Rattle.streams.proofs.Files.{file-counts, held-passes}
 use Rattle.streams.proofs.ReaderAnswers.{one-count, refused-not-read, passed-read, held}
 use Rattle.streams.proofs.Splitting.{front-part}
