@@ -8,7 +8,7 @@ ghost use Rattle.streams.specs.Lines.{pairText, unmadeText};
 ghost use Rattle.streams.specs.Printed.{CountsPlaced, Prints};
 
 // Two numbers, each behind its words, and the end of the line.
-fn print_pair(out: &mut [u8], opening: &[u8], x: u64, middle: &[u8], y: u64) -> usize
+pub fn print_pair(out: &mut [u8], opening: &[u8], x: u64, middle: &[u8], y: u64) -> usize
     ensures { λ r. ⌜ Placed (pairText (now (opening .entry)) x (now (middle .entry)) y) 0 (now (out .entry)) (now (out .exit)) r ⌝ }
 {
     let one = text_at(out, 0, opening);

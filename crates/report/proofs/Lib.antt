@@ -1,0 +1,5 @@
+pub mod GivenNumbers
+pub mod Answering
+pub mod Lines
+pub mod Longer
+pub mod InputA

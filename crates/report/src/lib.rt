@@ -1,0 +1,5 @@
+// What the program `benchrun` answers to its input.
+pub mod answer;
+pub mod limits;
+mod lines;
+mod stage;
