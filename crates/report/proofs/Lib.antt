@@ -1,5 +1,5 @@
 pub mod GivenNumbers
 pub mod Answering
-pub mod Lines
+pub mod Fitting
 pub mod Longer
 pub mod InputA

@@ -37,15 +37,15 @@ decimal-short (pos n) h = omega (arith, digits-within 19 n (omega arith))
 decimal-short (negsuc n) h = omega (arith, digits-within 19 (suc n) (omega arith))
 
 pub prints-line :
-    (k : ℕ) {v x y : List ℕ} {r : ℕ} → k < 65536 → length v ≤ 21 → Placed (stepsText k ++ v ++ ascii "\n") 0 x y r →
+    (k : ℕ) (v : List ℕ) {x y : List ℕ} {r : ℕ} → k < 65536 → length v ≤ 21 → Placed (stepsText k ++ v ++ ascii "\n") 0 x y r →
     Prints (stepsText k ++ v ++ ascii "\n") x y r
 unfolding stepsText ascii maxBytes
-prints-line k h l p = record { short = simp length-append (omega (arith, digits-within 4 k (omega arith))); placed = p }
+prints-line k v h l p = record { short = simp length-append (omega (arith, digits-within 4 k (omega arith))); placed = p }
 
 pub prints-number :
     (k : ℕ) (z : ℤ) {x y : List ℕ} {r : ℕ} → k < 65536 → Fits32 z → Placed (stepsText k ++ decimal z ++ ascii "\n") 0 x y r →
     Prints (stepsText k ++ decimal z ++ ascii "\n") x y r
-prints-number k z h f p = prints-line k h (decimal-short z f) p
+prints-number k z h f p = prints-line k (decimal z) h (decimal-short z f) p
 
 unfinished-short : (b : Bool) (n p : ℕ) → n < 256 → p < 18446744073709551616 → length (unfinishedText b n p) ≤ maxBytes
 unfolding maxBytes unfinishedText pairText ascii

@@ -1,0 +1,13 @@
+-- `report::lines::print_steps` meets its contract: three parts, one behind the other. Assumes nothing.
+use Rattle.lambdamix.specs.Text.{ascii}
+use Rattle.report.proofs.Fitting.{steps-placed}
+use borrow.Author.Needs.{needs}
+use Rattle.report.proofs.lines.print_steps.Statement.{statement}
+use Rattle.report.proofs.lines.print_steps.Tie as tie
+
+returns : tie.Need-returns
+unfolding ascii
+returns c = steps-placed _ (search needs) (c .before .before .before .before .before .before .before .before .before .before .text-at .ensures) (c .before .before .before .before .before .before .part-at .ensures) (c .before .before .part-at2 .ensures)
+
+pub print-steps-spec : {M : Type 1} → statement M
+print-steps-spec = tie.close (tie.spec (λ c. search needs) (λ c κs. tt) (λ c κs. tt) (λ c κs. tt) (λ c. search needs) returns)
