@@ -60,6 +60,14 @@ struct scriptmaker_make_reply {
     uint16_t nodes; /* of the written code; 0 without code */
 };
 
+struct scriptmaker_run_reply {
+    uint8_t number;
+    size_t place;
+    uint16_t steps;
+    uint8_t function; /* 1 if the result is a function, else 0 */
+    int32_t value;    /* the result; 0 unless it is a number */
+};
+
 /* The columns of a script, each with its length: what the functions take for its tables. */
 #define SCRIPTMAKER_COLUMNS(QUALIFIER)                                                                       \
     QUALIFIER uint16_t *parameters, size_t parameters_length, QUALIFIER uint16_t *results,                   \
@@ -98,6 +106,12 @@ struct scriptmaker_make_reply scriptmaker_bare_run(struct scriptmaker_counts cou
                                                    const int32_t *settings, size_t settings_length, uint32_t fuel,
                                                    uint64_t *heap, size_t heap_length, uint64_t *codes,
                                                    size_t codes_length, uint8_t *out, size_t out_length);
+
+/* The plain run, without marks and lifts, on a number for every input, in order. These refusals, then 12, 13 and 20; the run, with
+ * stops 22 to 25 and 28. The heap is untouched before a run and holds zeros after it. */
+struct scriptmaker_run_reply scriptmaker_run(struct scriptmaker_counts counts, SCRIPTMAKER_COLUMNS(const),
+                                             const int32_t *numbers, size_t numbers_length, uint32_t fuel,
+                                             uint64_t *heap, size_t heap_length);
 
 #ifdef __cplusplus
 }

@@ -20,7 +20,7 @@ pub struct Counts {
     pub nodes: u16,
 }
 
-/// The paper's number and place of a reply without code, with the steps of the run (0 before it).
+/// The paper's number and place of a reply without code or result, with the steps of the run (0 before it).
 #[derive(Clone, Copy, Debug, PartialEq, Eq)]
 pub struct Refusal {
     pub number: u8,
@@ -34,6 +34,20 @@ pub struct Made {
     pub steps: u16,
     pub nodes: u16,
     pub length: usize,
+}
+
+/// What a plain run gives.
+#[derive(Clone, Copy, Debug, PartialEq, Eq)]
+pub enum Outcome {
+    Number(i32),
+    Function,
+}
+
+/// A plain run that finished: its result and its steps.
+#[derive(Clone, Copy, Debug, PartialEq, Eq)]
+pub struct Ran {
+    pub outcome: Outcome,
+    pub steps: u16,
 }
 
 #[repr(C)]
@@ -62,6 +76,15 @@ struct MakeReply {
     place: usize,
     steps: u16,
     nodes: u16,
+}
+
+#[repr(C)]
+struct RunReply {
+    number: u8,
+    place: usize,
+    steps: u16,
+    function: u8,
+    value: i32,
 }
 
 // A slice is passed as a pointer and a length.
@@ -204,10 +227,34 @@ unsafe extern "C" {
         out: *mut u8,
         _: usize,
     ) -> MakeReply;
+    fn scriptmaker_run(
+        counts: Counts,
+        parameters: *const u16,
+        _: usize,
+        results: *const u16,
+        _: usize,
+        inputs: *const u16,
+        _: usize,
+        kinds: *const u8,
+        _: usize,
+        a: *const u16,
+        _: usize,
+        b: *const u16,
+        _: usize,
+        c: *const u16,
+        _: usize,
+        values: *const i32,
+        _: usize,
+        numbers: *const i32,
+        _: usize,
+        fuel: u32,
+        heap: *mut u64,
+        _: usize,
+    ) -> RunReply;
 }
 
 /// The type of `scriptmaker_make` and `scriptmaker_bare_run`.
-type Run = unsafe extern "C" fn(
+type Specialize = unsafe extern "C" fn(
     Counts,
     *const u16,
     usize,
@@ -398,18 +445,25 @@ impl Script {
 
     /// Makes the script for settings, and writes the file of the finished code to `out`.
     pub fn make(&self, settings: &[i32], fuel: u32, stores: &mut Stores, out: &mut [u8]) -> Result<Made, Refusal> {
-        self.run(scriptmaker_make, settings, fuel, stores, out)
+        self.specialize(scriptmaker_make, settings, fuel, stores, out)
     }
 
     /// The bare run, which leaves out refusals 9 to 11.
     pub fn bare_run(&self, settings: &[i32], fuel: u32, stores: &mut Stores, out: &mut [u8]) -> Result<Made, Refusal> {
-        self.run(scriptmaker_bare_run, settings, fuel, stores, out)
+        self.specialize(scriptmaker_bare_run, settings, fuel, stores, out)
     }
 
-    fn run(&self, run: Run, settings: &[i32], fuel: u32, stores: &mut Stores, out: &mut [u8]) -> Result<Made, Refusal> {
+    fn specialize(
+        &self,
+        entry: Specialize,
+        settings: &[i32],
+        fuel: u32,
+        stores: &mut Stores,
+        out: &mut [u8],
+    ) -> Result<Made, Refusal> {
         // SAFETY: each pointer and length come from one slice, and the stores and `out` overlap nothing.
         let reply = unsafe {
-            run(
+            entry(
                 self.counts,
                 self.parameters.as_ptr(),
                 self.parameters.len(),
@@ -440,6 +494,40 @@ impl Script {
         };
         let length = 8 + 4 * self.counts.inputs as usize + 13 * reply.nodes as usize;
         answer(reply.number, reply.place, reply.steps, Made { steps: reply.steps, nodes: reply.nodes, length })
+    }
+
+    /// The plain run, without marks and lifts, on a number for every input, in order: refusals 1 to 8, then 12, 13 and 20; stops 22
+    /// to 25 and 28.
+    pub fn run(&self, numbers: &[i32], fuel: u32, heap: &mut [u64]) -> Result<Ran, Refusal> {
+        // SAFETY: each pointer and length come from one slice, and `heap` overlaps no other.
+        let reply = unsafe {
+            scriptmaker_run(
+                self.counts,
+                self.parameters.as_ptr(),
+                self.parameters.len(),
+                self.results.as_ptr(),
+                self.results.len(),
+                self.inputs.as_ptr(),
+                self.inputs.len(),
+                self.kinds.as_ptr(),
+                self.kinds.len(),
+                self.a.as_ptr(),
+                self.a.len(),
+                self.b.as_ptr(),
+                self.b.len(),
+                self.c.as_ptr(),
+                self.c.len(),
+                self.values.as_ptr(),
+                self.values.len(),
+                numbers.as_ptr(),
+                numbers.len(),
+                fuel,
+                heap.as_mut_ptr(),
+                heap.len(),
+            )
+        };
+        let outcome = if reply.function == 1 { Outcome::Function } else { Outcome::Number(reply.value) };
+        answer(reply.number, reply.place, reply.steps, Ran { outcome, steps: reply.steps })
     }
 }
 

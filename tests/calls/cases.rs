@@ -7,8 +7,8 @@ use reference::random::Random;
 use reference::script::*;
 use reference::specializer::MAX_FUEL;
 
-pub const ENTRIES: [Entry; 6] =
-    [Entry::Read, Entry::Write, Entry::List, Entry::Check, Entry::Make, Entry::BareRun];
+pub const ENTRIES: [Entry; 7] =
+    [Entry::Read, Entry::Write, Entry::List, Entry::Check, Entry::Make, Entry::BareRun, Entry::Run];
 
 /// More room than any output takes.
 const AMPLE: usize = 70_000;
@@ -16,13 +16,13 @@ const AMPLE: usize = 70_000;
 /// The call at one place of a seeded sequence.
 pub fn case(seed: u64, index: u64) -> (Entry, Memory) {
     let mut random = Random::new(seed ^ 0xCA11, index);
-    let entry = ENTRIES[random.pick(&[0, 0, 1, 1, 2, 3, 3, 4, 4, 4, 4, 5, 5, 5])];
+    let entry = ENTRIES[random.pick(&[0, 0, 1, 1, 2, 3, 3, 4, 4, 4, 4, 5, 5, 5, 6, 6, 6, 6])];
     let mut memory = if entry == Entry::Read {
         read_case(seed, index, &mut random)
     } else {
         table_case(seed, index, entry, &mut random)
     };
-    if matches!(entry, Entry::Make | Entry::BareRun) {
+    if matches!(entry, Entry::Make | Entry::BareRun | Entry::Run) {
         lend_run(&mut memory, entry, &mut random);
     }
     lend_output(&mut memory, entry, &mut random);
@@ -148,9 +148,13 @@ fn miscount(counts: &mut Counts, random: &mut Random) {
 
 /// Tables of a script, or of records that the reader would refuse.
 fn table_case(seed: u64, index: u64, entry: Entry, random: &mut Random) -> Memory {
-    // Most checks are of scripts that may be ill typed, most runs are of scripts that are not.
+    // Most checks are of scripts that may be ill typed, most makings are of scripts that are not.
     let damaged = generate::input(seed, index);
-    let whole = generate::whole(seed, if entry == Entry::Make { 3 * index } else { index });
+    let whole = match entry {
+        Entry::Make => generate::whole(seed, 3 * index),
+        Entry::Run => generate::reading(seed, index),
+        _ => generate::whole(seed, index),
+    };
     let input = if random.chance(35) { damaged } else { whole };
     let (file, rest) = split(&input);
     let mut memory = plain(file, random);
@@ -175,18 +179,49 @@ fn table_case(seed: u64, index: u64, entry: Entry, random: &mut Random) -> Memor
     memory
 }
 
+/// How many settings are wanted: one for each early input; a plain run wants a number for each input.
+fn wanted(entry: Entry, memory: &Memory) -> usize {
+    match entry {
+        Entry::Run => memory.counts.inputs,
+        _ => early(memory),
+    }
+}
+
+fn early(memory: &Memory) -> usize {
+    memory.columns.inputs.iter().take(memory.counts.inputs).filter(|&&t| t == S).count()
+}
+
 /// Settings one too few or too many, fuel at its limits and at what the run takes, and stores of lengths near what the fuel wants.
 fn lend_run(memory: &mut Memory, entry: Entry, random: &mut Random) {
-    let early =
-        memory.columns.inputs.iter().take(memory.counts.inputs).filter(|&&t| t == S).count();
-    resize(&mut memory.settings, early, random, |x| x as i32 % 10);
-    let most = MAX_FUEL as u32;
-    memory.fuel = most;
+    let wanted = wanted(entry, memory).min(2 * MAX_INPUTS);
+    resize(&mut memory.settings, wanted, random, |x| x as i32 % 10);
+    memory.fuel = MAX_FUEL as u32;
     memory.heap = vec![0; MAX_FUEL + 16];
     memory.codes = vec![0; 2 * MAX_FUEL + 16];
+    memory.fuel = fuel(memory, entry, random);
+    let one_less = wanted.saturating_sub(1);
+    let settings = random.pick(&[wanted, wanted, wanted, wanted + 1, one_less, early(memory)]);
+    if random.chance(20) {
+        resize(&mut memory.settings, settings, random, |x| x as i32);
+    }
+    let fuel = memory.fuel.min(MAX_FUEL as u32 + 1) as usize;
+    let lengths = [fuel + 16, 2 * fuel + 16];
+    let [heap, codes] = lengths.map(|n| if random.chance(70) { n } else { near(n, random) });
+    let clean = random.chance(20);
+    memory.heap = dirty(heap, random, |x| x);
+    memory.codes = dirty(codes, random, |x| x);
+    if clean {
+        memory.heap.fill(0);
+        memory.codes.fill(0);
+    }
+}
+
+/// Fuel for a run that takes some steps with the most.
+fn fuel(memory: &Memory, entry: Entry, random: &mut Random) -> u32 {
+    let most = MAX_FUEL as u32;
     let steps = taken(memory, entry).steps as u32;
     let few = random.below(60) as u32;
-    memory.fuel = match random.below(16) {
+    match random.below(16) {
         0 => few,
         1 => steps.saturating_sub(1),
         2 => steps,
@@ -196,20 +231,6 @@ fn lend_run(memory: &mut Memory, entry: Entry, random: &mut Random) {
         12 => random.pick(&[0, most - 1]),
         13 => random.pick(&[most + 1, u32::MAX, 1 << 31, 65_536]),
         _ => random.pick(&[400, 1_000, 2_001]),
-    };
-    let settings = random.pick(&[early, early, early, early, early + 1, early.saturating_sub(1)]);
-    if random.chance(20) {
-        resize(&mut memory.settings, settings, random, |x| x as i32);
-    }
-    let fuel = memory.fuel.min(most + 1) as usize;
-    let lengths = [fuel + 16, 2 * fuel + 16];
-    let [heap, codes] = lengths.map(|n| if random.chance(70) { n } else { near(n, random) });
-    let clean = random.chance(20);
-    memory.heap = dirty(heap, random, |x| x);
-    memory.codes = dirty(codes, random, |x| x);
-    if clean {
-        memory.heap.fill(0);
-        memory.codes.fill(0);
     }
 }
 
@@ -227,7 +248,14 @@ fn lend_output(memory: &mut Memory, entry: Entry, random: &mut Random) {
 }
 
 /// What may be odd about a call, by name, and whether it is. Each must be tried.
-pub fn oddities(entry: Entry, memory: &Memory) -> [(&'static str, bool); 19] {
+pub fn oddities(entry: Entry, memory: &Memory) -> Vec<(&'static str, bool)> {
+    let answer = taken(memory, entry);
+    let mut oddities = table_oddities(entry, memory, &answer).to_vec();
+    oddities.extend(run_oddities(entry, memory, &answer));
+    oddities
+}
+
+fn table_oddities(entry: Entry, memory: &Memory, answer: &Answer) -> [(&'static str, bool); 9] {
     let Counts { types, inputs, nodes } = match read_head(&memory.file) {
         Ok(counts) if entry == Entry::Read => counts,
         _ => memory.counts,
@@ -244,12 +272,7 @@ pub fn oddities(entry: Entry, memory: &Memory) -> [(&'static str, bool); 19] {
         (x.values.len(), nodes),
     ];
     let short = tables.iter().filter(|(lent, count)| lent < count).count();
-    let answer = taken(memory, entry);
     let (refused, written, room) = (answer.number, answer.length, memory.out.len());
-    let run = matches!(entry, Entry::Make | Entry::BareRun);
-    let early = x.inputs.iter().take(inputs).filter(|&&t| t == S).count();
-    let given = memory.settings.len();
-    let (fuel, heap, codes) = (memory.fuel as usize, memory.heap.len(), memory.codes.len());
     [
         ("one table short by one", short == 1 && tables.iter().any(|(lent, n)| lent + 1 == *n)),
         ("tables as long as the counts", tables.iter().all(|(lent, n)| lent == n)),
@@ -260,15 +283,32 @@ pub fn oddities(entry: Entry, memory: &Memory) -> [(&'static str, bool); 19] {
         ("output short by one", room + 1 == written),
         ("output as long as what is written", written > 0 && room == written),
         ("output longer", written > 0 && room > written),
+    ]
+}
+
+fn run_oddities(entry: Entry, memory: &Memory, answer: &Answer) -> [(&'static str, bool); 14] {
+    let making = matches!(entry, Entry::Make | Entry::BareRun);
+    let plain = entry == Entry::Run;
+    let run = making || plain;
+    let (given, wanted) = (memory.settings.len(), wanted(entry, memory));
+    let (fuel, heap, codes) = (memory.fuel as usize, memory.heap.len(), memory.codes.len());
+    let dirty = |store: &[u64]| store.iter().any(|&place| place != 0);
+    let (dirty_heap, dirty_codes) = (dirty(&memory.heap), dirty(&memory.codes));
+    let finished = plain && answer.number == 0;
+    [
         ("fuel 0", run && fuel == 0),
         ("fuel 16000", run && fuel == 16_000),
         ("fuel 16001", run && fuel == 16_001),
         ("fuel 4294967295", run && memory.fuel == u32::MAX),
-        ("one setting too few", run && given + 1 == early),
-        ("one setting too many", run && given == early + 1),
+        ("one setting too few", run && given + 1 == wanted),
+        ("one setting too many", run && given == wanted + 1),
+        ("numbers for the early inputs alone", plain && given < wanted && given == early(memory)),
         ("heap short by one", run && heap + 1 == fuel + 16),
-        ("code store short by one", run && codes + 1 == 2 * fuel + 16),
+        ("code store short by one", making && codes + 1 == 2 * fuel + 16),
         ("stores as long as the fuel wants", run && heap == fuel + 16 && codes == 2 * fuel + 16),
-        ("dirty stores", run && memory.heap.iter().chain(&memory.codes).any(|&x| x != 0)),
+        ("dirty stores", run && (dirty_heap || dirty_codes)),
+        ("a plain run on a dirty heap", finished && dirty_heap),
+        ("a plain run to a number", finished && !answer.function),
+        ("a plain run to a function", finished && answer.function),
     ]
 }

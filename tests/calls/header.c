@@ -1,5 +1,5 @@
 /* Each entry as the header has it, on what one struct lends; all that it tells stands in another. Both structs are those of
- * ways.rs. */
+ * ways.rs. The settings are the numbers of a plain run too. */
 #include "scriptmaker.h"
 
 struct lent {
@@ -40,12 +40,14 @@ struct told {
     struct scriptmaker_counts counts;
     size_t length;
     uint16_t nodes;
+    uint8_t function;
+    int32_t value;
 };
 
 #define COLUMNS                                                                                                \
     l->parameters, l->parameters_length, l->results, l->results_length, l->inputs, l->inputs_length, l->kinds, \
         l->kinds_length, l->a, l->a_length, l->b, l->b_length, l->c, l->c_length, l->values, l->values_length
-#define RUN \
+#define MAKING \
     l->settings, l->settings_length, l->fuel, l->heap, l->heap_length, l->codes, l->codes_length, l->out, l->out_length
 
 void header_read(const struct lent *l, struct told *t) {
@@ -68,16 +70,23 @@ void header_check(const struct lent *l, struct told *t) {
     *t = (struct told){.number = r.number, .place = r.place};
 }
 
-/* The reply of a run tells no length; a made file has no types, the same inputs, and the nodes of the code. */
+/* The reply of a making tells no length; a made file has no types, the same inputs, and the nodes of the code. */
 static void made(const struct lent *l, struct scriptmaker_make_reply r, struct told *t) {
     size_t length = r.number ? 0 : 8 + 4 * (size_t)l->counts.inputs + 13 * (size_t)r.nodes;
     *t = (struct told){.number = r.number, .place = r.place, .steps = r.steps, .length = length, .nodes = r.nodes};
 }
 
 void header_make(const struct lent *l, struct told *t) {
-    made(l, scriptmaker_make(l->counts, COLUMNS, RUN), t);
+    made(l, scriptmaker_make(l->counts, COLUMNS, MAKING), t);
 }
 
 void header_bare_run(const struct lent *l, struct told *t) {
-    made(l, scriptmaker_bare_run(l->counts, COLUMNS, RUN), t);
+    made(l, scriptmaker_bare_run(l->counts, COLUMNS, MAKING), t);
+}
+
+void header_run(const struct lent *l, struct told *t) {
+    struct scriptmaker_run_reply r =
+        scriptmaker_run(l->counts, COLUMNS, l->settings, l->settings_length, l->fuel, l->heap, l->heap_length);
+    *t =
+        (struct told){.number = r.number, .place = r.place, .steps = r.steps, .function = r.function, .value = r.value};
 }

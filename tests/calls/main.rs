@@ -22,6 +22,7 @@ fn numbers(entry: Entry) -> Vec<usize> {
         Entry::Check => &[9, 10, 11],
         Entry::Make => &[9, 10, 11, 12, 13, 20, 21, 22, 23, 24, 25, 26],
         Entry::BareRun => &[12, 13, 20, 21, 22, 23, 24, 25, 26, 27],
+        Entry::Run => &[12, 13, 20, 22, 23, 24, 25, 28],
     };
     let mut all = [&[0, 1, 3, 4, 5, 6, 7, 8], own].concat();
     all.sort();
@@ -62,7 +63,7 @@ fn difference(wanted: &(Answer, Memory), answer: Answer, after: &Memory) -> Opti
 /// What has been tried: how often each entry gave each number, and how often a call was odd in each way.
 #[derive(Default)]
 struct Tally {
-    numbers: [[usize; 28]; ENTRIES.len()],
+    numbers: [[usize; 29]; ENTRIES.len()],
     oddities: BTreeMap<&'static str, usize>,
     differences: usize,
 }

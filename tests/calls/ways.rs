@@ -3,7 +3,7 @@
 use reference::lent::{Answer, Columns, Entry, Memory};
 use reference::random::Random;
 use reference::script::{Counts, Reply};
-use scriptmaker::{Refusal, Script, Stores};
+use scriptmaker::{Outcome, Ran, Refusal, Script, Stores};
 
 #[repr(C)]
 struct Lent {
@@ -46,6 +46,8 @@ struct Told {
     counts: [u16; 3],
     length: usize,
     nodes: u16,
+    function: u8,
+    value: i32,
 }
 
 unsafe extern "C" {
@@ -55,6 +57,7 @@ unsafe extern "C" {
     fn header_check(lent: *const Lent, told: *mut Told);
     fn header_make(lent: *const Lent, told: *mut Told);
     fn header_bare_run(lent: *const Lent, told: *mut Told);
+    fn header_run(lent: *const Lent, told: *mut Told);
 }
 
 /// A piece of memory between two margins, which no call may touch. The first is of any length, so that bytes stand at any address.
@@ -92,6 +95,11 @@ impl<T: Copy + PartialEq> Between<T> {
 
 fn word(count: usize) -> u16 {
     count.try_into().expect("a count of 16 bits")
+}
+
+fn flag(function: u8) -> bool {
+    assert!(function < 2, "a function is told by 1, anything else by 0");
+    function == 1
 }
 
 /// The answer, the memory after the call, and whether the margins are as they were.
@@ -147,6 +155,7 @@ pub fn by_header(entry: Entry, memory: &Memory, random: &mut Random) -> (Answer,
         Entry::Check => header_check,
         Entry::Make => header_make,
         Entry::BareRun => header_bare_run,
+        Entry::Run => header_run,
     };
     let mut told = Told::default();
     // SAFETY: each pointer and length are those of a piece of its own.
@@ -159,6 +168,8 @@ pub fn by_header(entry: Entry, memory: &Memory, random: &mut Random) -> (Answer,
         counts: Counts { types, inputs: count, nodes },
         length: told.length,
         nodes: told.nodes.into(),
+        function: flag(told.function),
+        value: told.value,
     };
     let mut kept = true;
     let after = Memory {
@@ -183,6 +194,14 @@ pub fn by_header(entry: Entry, memory: &Memory, random: &mut Random) -> (Answer,
     (answer, after, kept)
 }
 
+fn ran(Ran { outcome, steps }: Ran) -> Answer {
+    let answer = Answer { steps: steps.into(), ..Answer::SUCCESS };
+    match outcome {
+        Outcome::Number(value) => Answer { value, ..answer },
+        Outcome::Function => Answer { function: true, ..answer },
+    }
+}
+
 /// The same by the wrapper, which tells of a refusal and a stop only what a reply without code has.
 pub fn by_wrapper(entry: Entry, memory: &Memory) -> (Answer, Memory) {
     let mut after = memory.clone();
@@ -195,7 +214,7 @@ pub fn by_wrapper(entry: Entry, memory: &Memory) -> (Answer, Memory) {
     let heap = std::mem::take(&mut after.heap);
     let mut stores = Stores { heap, codes: std::mem::take(&mut after.codes) };
     let success = Answer::SUCCESS;
-    let run = if entry == Entry::Make { Script::make } else { Script::bare_run };
+    let making = if entry == Entry::Make { Script::make } else { Script::bare_run };
     let told = match entry {
         Entry::Read => script.read(&memory.file).map(|()| {
             let scriptmaker::Counts { types, inputs, nodes } = script.counts;
@@ -206,12 +225,13 @@ pub fn by_wrapper(entry: Entry, memory: &Memory) -> (Answer, Memory) {
         Entry::List => script.list(&mut after.out).map(|length| Answer { length, ..success }),
         Entry::Check => script.check().map(|()| success),
         Entry::Make | Entry::BareRun => {
-            let made = run(&script, &memory.settings, memory.fuel, &mut stores, &mut after.out);
+            let made = making(&script, &memory.settings, memory.fuel, &mut stores, &mut after.out);
             made.map(|made| {
                 let (steps, nodes) = (made.steps.into(), made.nodes.into());
                 Answer { steps, nodes, length: made.length, ..success }
             })
         }
+        Entry::Run => script.run(&memory.settings, memory.fuel, &mut stores.heap).map(ran),
     };
     let answer = told.unwrap_or_else(|Refusal { number, place, steps }| {
         Answer::without(Reply { number, place, steps: steps.into() })

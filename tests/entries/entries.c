@@ -1,7 +1,8 @@
 /* Calls each entry by the header on one script file, and prints each reply and all that was lent:
- *   entries FILE FUEL HEAP CODES OUT [SETTING..]
- * HEAP, CODES and OUT are the lengths of the stores and the output. No two columns are of one length, and no two of what is lent
- * hold the same before. Then it reads and makes with the tables, the stores and the fuel that the header has for any script. */
+ *   entries FILE FUEL HEAP CODES OUT [NUMBER..]
+ * HEAP, CODES and OUT are the lengths of the stores and the output; the numbers are the settings, and what the plain run takes. No
+ * two columns are of one length, and no two of what is lent hold the same before. Then it reads, makes and runs with the tables,
+ * the stores and the fuel that the header has for any script. */
 #include <stdio.h>
 #include <stdlib.h>
 
@@ -16,7 +17,7 @@ static struct {
 static struct scriptmaker_script any;
 static struct scriptmaker_stores stores;
 static uint8_t file[SCRIPTMAKER_FILE], out[SCRIPTMAKER_LISTING];
-static int32_t settings[SCRIPTMAKER_INPUTS];
+static int32_t numbers[SCRIPTMAKER_INPUTS];
 static size_t heap, codes, room; /* how much of the stores and the output is lent */
 
 #define LENGTH(x) (sizeof(x) / sizeof *(x))
@@ -72,6 +73,12 @@ static void made(const char *entry, struct scriptmaker_make_reply r) {
     PRINT("out", out, room);
 }
 
+static void ran(struct scriptmaker_run_reply r) {
+    printf("run: number %u place %zu steps %u", r.number, r.place, r.steps);
+    printf(" function %u value %ld\n", r.function, (long)r.value);
+    PRINT("heap", stores.heap, heap);
+}
+
 int main(int count, char **words) {
     FILE *f = count < 6 ? NULL : fopen(words[1], "rb");
     if (!f) return 2;
@@ -80,8 +87,8 @@ int main(int count, char **words) {
     heap = strtoul(words[3], NULL, 10);
     codes = strtoul(words[4], NULL, 10);
     room = strtoul(words[5], NULL, 10);
-    if (heap > SCRIPTMAKER_HEAP || codes > SCRIPTMAKER_CODES || room > sizeof out || given > LENGTH(settings)) return 2;
-    for (size_t k = 0; k < given; k++) settings[k] = atoi(words[6 + k]);
+    if (heap > SCRIPTMAKER_HEAP || codes > SCRIPTMAKER_CODES || room > sizeof out || given > LENGTH(numbers)) return 2;
+    for (size_t k = 0; k < given; k++) numbers[k] = atoi(words[6 + k]);
 
     EACH_COLUMN(FILL_COLUMN, few)
     struct scriptmaker_read_reply r = scriptmaker_read(file, length, FEW);
@@ -95,10 +102,12 @@ int main(int count, char **words) {
     struct scriptmaker_check_reply q = scriptmaker_check(n, FEW);
     printf("check: number %u place %zu\n", q.number, q.place);
     prepare();
-    made("make", scriptmaker_make(n, FEW, settings, given, fuel, stores.heap, heap, stores.codes, codes, out, room));
+    made("make", scriptmaker_make(n, FEW, numbers, given, fuel, stores.heap, heap, stores.codes, codes, out, room));
     prepare();
     made("bare_run",
-         scriptmaker_bare_run(n, FEW, settings, given, fuel, stores.heap, heap, stores.codes, codes, out, room));
+         scriptmaker_bare_run(n, FEW, numbers, given, fuel, stores.heap, heap, stores.codes, codes, out, room));
+    prepare();
+    ran(scriptmaker_run(n, FEW, numbers, given, fuel, stores.heap, heap));
 
     heap = SCRIPTMAKER_HEAP;
     codes = SCRIPTMAKER_CODES;
@@ -108,7 +117,9 @@ int main(int count, char **words) {
     was_read(r);
     EACH_COLUMN(PRINT_COLUMN, any)
     prepare();
-    made("make", scriptmaker_make(r.counts, SCRIPTMAKER_OF(&any), settings, given, SCRIPTMAKER_FUEL,
+    made("make", scriptmaker_make(r.counts, SCRIPTMAKER_OF(&any), numbers, given, SCRIPTMAKER_FUEL,
                                   SCRIPTMAKER_IN(&stores), out, room));
+    prepare();
+    ran(scriptmaker_run(r.counts, SCRIPTMAKER_OF(&any), numbers, given, SCRIPTMAKER_FUEL, stores.heap, heap));
     return fflush(stdout) ? 2 : 0;
 }

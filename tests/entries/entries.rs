@@ -1,6 +1,6 @@
 //! The same as entries.c, by the wrapper.
 
-use scriptmaker::{Counts, Made, Refusal, Script, Stores, MAX_FILE, MAX_FUEL};
+use scriptmaker::{Counts, Made, Outcome, Ran, Refusal, Script, Stores, MAX_FILE, MAX_FUEL};
 use std::fmt::Display;
 
 fn print<T: PartialEq + Display>(name: &str, places: &[T]) {
@@ -70,13 +70,25 @@ fn made(
     print("out", &out);
 }
 
+fn ran(heap: &mut [u64], call: impl Fn(&mut [u64]) -> Result<Ran, Refusal>) {
+    heap.fill(600);
+    let reply = call(heap);
+    let (steps, function, value) = match reply {
+        Ok(Ran { outcome: Outcome::Number(value), steps }) => (steps, 0, value),
+        Ok(Ran { outcome: Outcome::Function, steps }) => (steps, 1, 0),
+        Err(f) => (f.steps, 0, 0),
+    };
+    println!("run: {} steps {steps} function {function} value {value}", told(&reply));
+    print("heap", heap);
+}
+
 fn main() {
     let words: Vec<String> = std::env::args().skip(1).collect();
     let number = |word: &String| word.parse::<i64>().expect("a number");
     let file = std::fs::read(&words[0]).expect("a file");
     let fuel = number(&words[1]) as u32;
     let [heap, codes, room] = [2, 3, 4].map(|k: usize| number(&words[k]) as usize);
-    let settings: Vec<i32> = words[5..].iter().map(|word| number(word) as i32).collect();
+    let numbers: Vec<i32> = words[5..].iter().map(|word| number(word) as i32).collect();
 
     let mut few = Script {
         counts: Counts::default(),
@@ -94,12 +106,13 @@ fn main() {
     wrote("write", room, |out| few.write(out));
     wrote("list", room, |out| few.list(out));
     println!("check: {}", told(&few.check()));
-    made("make", &mut stores, room, |stores, out| few.make(&settings, fuel, stores, out));
-    made("bare_run", &mut stores, room, |stores, out| few.bare_run(&settings, fuel, stores, out));
+    made("make", &mut stores, room, |stores, out| few.make(&numbers, fuel, stores, out));
+    made("bare_run", &mut stores, room, |stores, out| few.bare_run(&numbers, fuel, stores, out));
+    ran(&mut stores.heap, |heap| few.run(&numbers, fuel, heap));
 
     let mut any = Script::new();
+    let mut stores = Stores::new(MAX_FUEL);
     read(&mut any, &file);
-    made("make", &mut Stores::new(MAX_FUEL), MAX_FILE, |stores, out| {
-        any.make(&settings, MAX_FUEL, stores, out)
-    });
+    made("make", &mut stores, MAX_FILE, |stores, out| any.make(&numbers, MAX_FUEL, stores, out));
+    ran(&mut stores.heap, |heap| any.run(&numbers, MAX_FUEL, heap));
 }

@@ -76,3 +76,10 @@ WRITING(list)
     }
 MAKING(make)
 MAKING(bare_run)
+
+struct three true_scriptmaker_run(TAKE16, word, word, word, word, word, word);
+struct three scriptmaker_run(TAKE16, word q, word r, word s, word t, word u, word v) {
+    word w[] = {GIVE16, q, r, s, t, u, v};
+    arrange("run", "122222222212", w);
+    return true_scriptmaker_run(W16, w[16], w[17], w[18], w[19], w[20], w[21]);
+}

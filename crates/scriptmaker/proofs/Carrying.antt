@@ -19,13 +19,17 @@ use Rattle.residual.specs.declared.Reply.{Reply}
 use Rattle.residual.specs.AfterRun.{replied}
 use Rattle.cells.specs.Room.{Stores}
 use Rattle.specializer.specs.Entry.{Makes, MakesAs}
+use Rattle.plainrun.specs.declared.Reply as Plain
+use Rattle.plainrun.specs.Running as Running
+use Rattle.plainrun.specs.Running.{Runs, RunsAs}
 use Rattle.printer.specs.ListCalls.{ListsTables, ListsAs}
 use Rattle.scriptmaker.specs.declared.Counts.{Counts}
 use Rattle.scriptmaker.specs.declared.ReadReply.{ReadReply}
 use Rattle.scriptmaker.specs.declared.WriteReply.{WriteReply}
 use Rattle.scriptmaker.specs.declared.CheckReply.{CheckReply}
 use Rattle.scriptmaker.specs.declared.MakeReply.{MakeReply}
-use Rattle.scriptmaker.specs.Calls.{countsOf, readReply, writeReply, checkReply, makeReply}
+use Rattle.scriptmaker.specs.declared.RunReply.{RunReply}
+use Rattle.scriptmaker.specs.Calls.{countsOf, readReply, writeReply, checkReply, makeReply, runReply}
 
 pub reads :
     {bs : List ℕ} {before after : Tables} {r : Reading} {q : ReadReply} → Reads bs before after r → q ≡ readReply (readingReply r) →
@@ -61,3 +65,8 @@ module _ {n : Counts} {m : Script.Counts} (same : m ≡ countsOf n) where
   makes h e =
       let k = rw same at h in
       record { reply = e ∙ ap makeReply (k .reply); output = k .output; stored = k .stored; fit = k .fit }
+
+  pub runs :
+      {x : Tables} {zs : List ℤ} {fuel : ℕ} {before after : List ℕ} {r : Plain.Reply} {q : RunReply} → Runs m x zs fuel before after r →
+      q ≡ runReply (Running.replied r) → RunsAs (holding runReply) (countsOf n) x zs fuel before after q
+  runs h e = let k = rw same at h in record { reply = e ∙ ap runReply (k .reply); stored = k .stored }

@@ -1,9 +1,10 @@
-// Reading, writing, checking, making, the bare run and the listing for callers in C and Rust: functions with C's names and structs
+// Reading, writing, checking, making, the bare run, the plain run and the listing for callers in C and Rust: functions with C's names and structs
 // over the proved entries. A slice is passed as a pointer and a length, and a lent slice overlaps no other.
 pub mod check;
 pub mod list;
 pub mod make;
 pub mod read;
+pub mod run;
 pub mod write;
 
 ghost use mathlib.Core.Path.{_≡_};
@@ -47,6 +48,16 @@ pub struct MakeReply {
     pub place: usize,
     pub steps: u16,
     pub nodes: u16,
+}
+
+// The steps of the plain run, 1 if it gave a function, and the number that it gave.
+#[repr(C)]
+pub struct RunReply {
+    pub number: u8,
+    pub place: usize,
+    pub steps: u16,
+    pub function: u8,
+    pub value: i32,
 }
 
 fn counted(n: Counts) -> script::Counts

@@ -1,7 +1,8 @@
-// An input of the program: the text that is printed for it.
+// An input of a program, `benchmake` or `benchrun`: the text that is printed for it.
 use crate::print;
 use libc::STDOUT_FILENO;
-use respond::answer::respond;
+use report::answer as running;
+use respond::answer as making;
 use respond::limits::MAX_BYTES;
 use script::Writing;
 
@@ -14,10 +15,21 @@ fn print_text(k: usize, text: &[u8], n: usize) {
     }
 }
 
-pub(crate) fn try_input(k: usize, input: &[u8]) {
-    let mut out = [0u8; MAX_BYTES];
-    match respond(input, &mut out) {
-        Writing::Written(n) => print_text(k, &out, n),
+fn print_written(k: usize, told: Writing, out: &[u8]) {
+    match told {
+        Writing::Written(n) => print_text(k, out, n),
         Writing::Refused(_) => print_text(k, b"too short", 9),
     }
+}
+
+pub(crate) fn try_making(k: usize, input: &[u8]) {
+    let mut out = [0u8; MAX_BYTES];
+    let told = making::respond(input, &mut out);
+    print_written(k, told, &out);
+}
+
+pub(crate) fn try_running(k: usize, input: &[u8]) {
+    let mut out = [0u8; MAX_BYTES];
+    let told = running::respond(input, &mut out);
+    print_written(k, told, &out);
 }

@@ -1,24 +1,29 @@
 // Runs the packed files of data/ through the proved functions and prints each reply, behind its number in the file: scripts.bin through
-// reader and checker, makes.bin through the maker, inputs.bin through the program's answer. Each record stands behind its length in
-// four bytes.
+// reader and checker, makes.bin through the maker, inputs.bin through the answer of `benchmake`, runs.bin through the plain run, readings.bin through
+// the answer of `benchrun`. Each record stands behind its length in four bytes.
 mod answers;
 mod makes;
 mod print;
+mod runs;
 mod scripts;
 mod task;
 
 // Which functions the records of a file go through.
 enum Kind {
     Scripts,
-    Calls,
+    Makes,
     Inputs,
+    Runs,
+    Readings,
 }
 
 fn try_record(kind: Kind, k: usize, record: &[u8]) {
     match kind {
         Kind::Scripts => scripts::try_script(k, record),
-        Kind::Calls => makes::try_call(k, record),
-        Kind::Inputs => answers::try_input(k, record),
+        Kind::Makes => makes::try_call(k, record),
+        Kind::Inputs => answers::try_making(k, record),
+        Kind::Runs => runs::try_run(k, record),
+        Kind::Readings => answers::try_running(k, record),
     }
 }
 
@@ -66,6 +71,8 @@ fn run(kind: Kind, path: &[u8]) {
 
 fn main() {
     run(Kind::Scripts, b"scripts.bin");
-    run(Kind::Calls, b"makes.bin");
+    run(Kind::Makes, b"makes.bin");
     run(Kind::Inputs, b"inputs.bin");
+    run(Kind::Runs, b"runs.bin");
+    run(Kind::Readings, b"readings.bin");
 }

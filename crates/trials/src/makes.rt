@@ -16,12 +16,12 @@ use script::place::file_size;
 ghost use Prim.Native.Nat.{_≤_};
 
 // Places of the stores that suffice for every call.
-const HEAP: usize = (MAX_FUEL as usize) + MAX_INPUTS;
+pub(crate) const HEAP: usize = (MAX_FUEL as usize) + MAX_INPUTS;
 
 const CODES: usize = 2 * (MAX_FUEL as usize) + MAX_INPUTS;
 
 // A length that is lent of a place for `most`.
-fn lent(record: &[u8], at: u16, most: usize) -> usize
+pub(crate) fn lent(record: &[u8], at: u16, most: usize) -> usize
     ensures { λ r. ⌜ r ≤ most ⌝ }
 {
     let n = bytes::number32(record, at as usize) as usize;
@@ -64,12 +64,13 @@ fn print_answer(k: usize, r: Reply, out: &[u8]) {
     }
 }
 
-fn read_settings(record: &[u8], count: u16, settings: &mut [i32]) {
+// The settings of a record, from a place on.
+pub(crate) fn read_settings(record: &[u8], at: u16, count: u16, settings: &mut [i32]) {
     for j in 0..count {
         column::put32(
             settings,
             j as usize,
-            bytes::value32(record, 18 + 4 * (j as usize)),
+            bytes::value32(record, (at as usize) + 4 * (j as usize)),
         );
     }
 }
@@ -117,7 +118,7 @@ pub(crate) fn try_call(k: usize, record: &[u8]) {
     let mut codes = [0u64; CODES];
     let mut space = [0u8; MAX_BYTES];
     let count = column::at8(record, 17);
-    read_settings(record, count as u16, &mut settings);
+    read_settings(record, 18, count as u16, &mut settings);
     let first = 0;
     let store = lent(record, 5, HEAP);
     let code = lent(record, 9, CODES);

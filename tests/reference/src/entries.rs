@@ -30,6 +30,10 @@ fn told(entry: Entry, name: &str, memory: &mut Memory) -> String {
         Entry::Write | Entry::List => format!(" length {}\n", answer.length),
         Entry::Check => "\n".to_string(),
         Entry::Make | Entry::BareRun => format!(" steps {} nodes {}\n", answer.steps, answer.nodes),
+        Entry::Run => {
+            let (steps, function, value) = (answer.steps, answer.function as u8, answer.value);
+            format!(" steps {steps} function {function} value {value}\n")
+        }
     };
     if entry == Entry::Read {
         memory.counts = answer.counts;
@@ -43,11 +47,13 @@ fn told(entry: Entry, name: &str, memory: &mut Memory) -> String {
         text += &places("c", &columns.c);
         text += &places("values", &columns.values);
     }
-    if matches!(entry, Entry::Make | Entry::BareRun) {
+    if matches!(entry, Entry::Make | Entry::BareRun | Entry::Run) {
         text += &places("heap", &memory.heap);
+    }
+    if matches!(entry, Entry::Make | Entry::BareRun) {
         text += &places("codes", &memory.codes);
     }
-    if !matches!(entry, Entry::Read | Entry::Check) {
+    if !matches!(entry, Entry::Read | Entry::Check | Entry::Run) {
         text += &places("out", &memory.out);
     }
     text
@@ -67,14 +73,14 @@ fn columns(lengths: [usize; 8]) -> Columns {
     }
 }
 
-/// All entries, one after the other, with stores and an output of these lengths; then reading and making with what is enough for any
-/// script.
-pub fn entries(file: &[u8], fuel: u32, lengths: [usize; 3], settings: &[i32]) -> String {
+/// All entries, one after the other, with stores and an output of these lengths; then reading, making and running with what is
+/// enough for any script. The numbers are the settings, and what the script is run on.
+pub fn entries(file: &[u8], fuel: u32, lengths: [usize; 3], numbers: &[i32]) -> String {
     let few = Memory {
         file: file.to_vec(),
         counts: Counts { types: 0, inputs: 0, nodes: 0 },
         columns: columns([5, 6, 7, 40, 41, 42, 43, 44]),
-        settings: settings.to_vec(),
+        settings: numbers.to_vec(),
         fuel,
         heap: vec![0; lengths[0]],
         codes: vec![0; lengths[1]],
@@ -93,8 +99,9 @@ pub fn entries(file: &[u8], fuel: u32, lengths: [usize; 3], settings: &[i32]) ->
     let (read, make) = ((Entry::Read, "read"), (Entry::Make, "make"));
     let (write, list) = ((Entry::Write, "write"), (Entry::List, "list"));
     let (check, bare_run) = ((Entry::Check, "check"), (Entry::BareRun, "bare_run"));
+    let run = (Entry::Run, "run");
     let all = |mut memory: Memory, entries: &[(Entry, &str)]| -> String {
         entries.iter().map(|&(entry, name)| told(entry, name, &mut memory)).collect()
     };
-    all(few, &[read, write, list, check, make, bare_run]) + &all(any, &[read, make])
+    all(few, &[read, write, list, check, make, bare_run, run]) + &all(any, &[read, make, run])
 }

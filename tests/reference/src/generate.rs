@@ -1,10 +1,14 @@
 //! A seeded corpus of `benchmake` inputs: scripts well typed by construction,
-//! ill typed scripts, and damaged files.
+//! ill typed scripts, and damaged files; and one of `benchrun` inputs.
 
 mod builder;
 mod damaged;
 mod ill_typed;
+mod late_numbers;
+mod marks;
+mod readings;
 mod shapes;
+mod sound;
 mod well_typed;
 
 use crate::assemble::{late_function, lay_out};
@@ -29,6 +33,11 @@ pub fn whole(seed: u64, index: u64) -> Vec<u8> {
     }
     let recipes = [ill_typed::RECIPES, ill_typed::ORDERED].concat();
     taken(&recipes, index - index / 3 - 1, &mut random)
+}
+
+/// The input of `benchrun` at one place of a seeded sequence.
+pub fn reading(seed: u64, index: u64) -> Vec<u8> {
+    taken(readings::RECIPES, index, &mut Random::new(seed, index))
 }
 
 /// The recipe whose turn it is; each run of turns takes every recipe as often as its weight.

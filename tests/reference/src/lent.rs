@@ -2,6 +2,7 @@
 
 use crate::checker;
 use crate::listing::listing;
+use crate::plain::{run, Outcome};
 use crate::script::{encode, read, Counts, Node, Reply, Script, MAX_NODES};
 use crate::specializer::{specialize, Lent};
 
@@ -13,6 +14,7 @@ pub enum Entry {
     Check,
     Make,
     BareRun,
+    Run,
 }
 
 /// The tables of a script as columns, of any lengths and with any contents.
@@ -28,7 +30,7 @@ pub struct Columns {
     pub values: Vec<i32>,
 }
 
-/// All that a call may be lent. An entry leaves alone what it does not take.
+/// All that a call may be lent. An entry leaves alone what it does not take. The settings are the numbers of a plain run too.
 #[derive(Clone, Debug, PartialEq, Eq)]
 pub struct Memory {
     pub file: Vec<u8>,
@@ -41,8 +43,9 @@ pub struct Memory {
     pub out: Vec<u8>,
 }
 
-/// A reply with all that some entry tells: the counts of what was read, the bytes of what was written, the nodes of made code. What
-/// an entry does not tell is 0, and so is everything but number, place and steps after a refusal or a stop.
+/// A reply with all that some entry tells: the counts of what was read, the bytes of what was written, the nodes of made code,
+/// whether a plain run gave a function, and else its number. What an entry does not tell is 0, and so is everything but number,
+/// place and steps after a refusal or a stop.
 #[derive(Clone, Copy, Debug, PartialEq, Eq)]
 pub struct Answer {
     pub number: u8,
@@ -51,6 +54,8 @@ pub struct Answer {
     pub counts: Counts,
     pub length: usize,
     pub nodes: usize,
+    pub function: bool,
+    pub value: i32,
 }
 
 impl Answer {
@@ -61,6 +66,8 @@ impl Answer {
         counts: Counts { types: 0, inputs: 0, nodes: 0 },
         length: 0,
         nodes: 0,
+        function: false,
+        value: 0,
     };
 
     pub fn without(Reply { number, place, steps }: Reply) -> Answer {
@@ -180,6 +187,20 @@ impl Memory {
         Ok(Answer { steps, nodes, ..answer })
     }
 
+    /// The heap holds zeros after any plain run, and is untouched before it.
+    fn ran(&mut self, script: &Script) -> Result<Answer, Reply> {
+        let outcome = run(script, &self.settings, self.fuel as usize, self.heap.len());
+        if !matches!(outcome, Err(Reply { number: 1..=20, .. })) {
+            self.heap.fill(0);
+        }
+        let ran = outcome?;
+        let answer = Answer { steps: ran.steps, ..Answer::SUCCESS };
+        Ok(match ran.outcome {
+            Outcome::Number(value) => Answer { value, ..answer },
+            Outcome::Function => Answer { function: true, ..answer },
+        })
+    }
+
     fn answer(&mut self, entry: Entry) -> Result<Answer, Reply> {
         if entry == Entry::Read {
             return self.read();
@@ -189,6 +210,7 @@ impl Memory {
             Entry::Write => return self.written(&encode(&script)),
             Entry::List => return self.written(listing(&script).as_bytes()),
             Entry::BareRun => return self.made(&script),
+            Entry::Run => return self.ran(&script),
             _ => checker::check(&script)?,
         };
         match entry {

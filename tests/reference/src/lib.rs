@@ -3,13 +3,19 @@
 
 pub mod assemble;
 pub mod benchmake;
+pub mod benchrun;
 pub mod checker;
+pub mod differ;
 pub mod entries;
 pub mod generate;
 pub mod lent;
 pub mod listing;
 pub mod makes;
+pub mod plain;
 pub mod random;
+pub mod run_checks;
+pub mod run_trials;
+pub mod runs;
 pub mod script;
 pub mod self_check;
 pub mod specializer;

@@ -4,15 +4,16 @@
 use std::fs;
 use std::io::{self, Read, Write};
 use std::path::{Path, PathBuf};
-use std::process::{Command, ExitCode, Stdio};
-use std::thread;
+use std::process::ExitCode;
 
 use reference::script::Reply;
-use reference::{assemble, benchmake, checker, entries, generate, makes, script, self_check};
+use reference::{assemble, benchmake, benchrun, checker, differ, entries, generate, makes, runs};
+use reference::{script, self_check};
 
 const USAGE: &str = "commands:
   self-check
   benchmake                      (standard input: a benchmake input)
+  benchrun                       (standard input: a benchrun input)
   assemble                       (standard input: a script as text)
   corpus DIR SEED COUNT
   expect DIR [FUEL]
@@ -25,9 +26,11 @@ const USAGE: &str = "commands:
   pack-whole FILE SEED COUNT MOST
   pack-long FILE COUNT
   pack-makes FILE SEED COUNT
-  packed read|check|benchmake|make FILE
-  entries FILE FUEL HEAP CODES OUT [SETTING..]
-  differ PROGRAM SEED COUNT [FILE]
+  pack-runs FILE SEED COUNT
+  pack-readings FILE SEED COUNT
+  packed read|check|benchmake|make|run|benchrun FILE
+  entries FILE FUEL HEAP CODES OUT [NUMBER..]
+  differ benchmake|benchrun PROGRAM SEED COUNT [FILE]
 ";
 
 fn main() -> ExitCode {
@@ -48,6 +51,7 @@ fn run(words: &[&str]) -> Result<bool, String> {
     match *words {
         ["self-check"] => Ok(self_check::self_check()),
         ["benchmake"] => print(benchmake::benchmake(&standard_input()?).as_bytes()),
+        ["benchrun"] => print(benchrun::benchrun(&standard_input()?).as_bytes()),
         ["assemble"] => {
             let text = String::from_utf8(standard_input()?).map_err(|e| e.to_string())?;
             print(&script::encode(&assemble::assemble(&text)?))
@@ -59,51 +63,92 @@ fn run(words: &[&str]) -> Result<bool, String> {
         ["bare", dir, fuel] => bare(dir, number(fuel)? as usize),
         ["read", dir] => tell(dir, |input| place(script::read(benchmake::split(input).0))),
         ["check", dir] => tell(dir, |input| place(benchmake::accept(input))),
-        ["pack", file, seed, count] => {
-            pack(file, number(count)?, |k| Ok(generate::input(number(seed)?, k)))
-        }
-        ["pack-scripts", file, seed, count] => pack(file, number(count)?, |k| {
-            let input = generate::input(number(seed)?, k);
-            // Every fourth keeps the settings behind the script, which makes the length wrong.
-            let whole = k % 4 == 0;
-            Ok(if whole { input } else { benchmake::split(&input).0.to_vec() })
-        }),
-        ["pack-damaged", file, seed, count] => {
-            let seed = number(seed)?;
-            let scripts = (0..).map(|k| benchmake::split(&generate::input(seed, k)).0.to_vec());
-            pack_first(file, number(count)?, scripts.filter(|bytes| script::read(bytes).is_err()))
-        }
-        ["pack-whole", file, seed, count, most] => {
-            let (seed, most) = (number(seed)?, number(most)? as usize);
-            let scripts = (0..).map(|k| benchmake::split(&generate::whole(seed, k)).0.to_vec());
-            let small = scripts.filter(|bytes| bytes.len() <= most);
-            pack_first(file, number(count)?, small.filter(|bytes| script::read(bytes).is_ok()))
-        }
+        ["packed", what, file] => packed(what, file),
         ["pack-long", file, count] => {
             let bytes = script::encode(&generate::long_to_check());
-            pack(file, number(count)?, |_| Ok(bytes.clone()))
+            pack(file, number(count)?, |_| bytes.clone())
         }
-        ["packed", "read", file] => tell_packed(file, |input| place(script::read(input)) + "\n"),
-        ["packed", "check", file] => tell_packed(file, |input| {
+        ["pack-whole", file, seed, count, most] => {
+            pack_whole(file, number(seed)?, number(count)?, number(most)? as usize)
+        }
+        ["entries", file, fuel, heap, codes, out, ref numbers @ ..] => {
+            let lengths = [number(heap)?, number(codes)?, number(out)?].map(|n| n as usize);
+            call_entries(file, number(fuel)? as u32, lengths, numbers)
+        }
+        ["differ", name, path, seed, count, ref file @ ..] if file.len() < 2 => {
+            let program = program(name)?;
+            let keep = file.first().map(Path::new);
+            differ::differ(&program, path, number(seed)?, number(count)?, keep)
+        }
+        [what, file, seed, count] => pack_seeded(what, file, number(seed)?, number(count)?),
+        _ => Err(USAGE.to_string()),
+    }
+}
+
+/// Writes what a seed gives into one file.
+fn pack_seeded(what: &str, file: &str, seed: u64, count: u64) -> Result<bool, String> {
+    match what {
+        "pack" => pack(file, count, |k| generate::input(seed, k)),
+        "pack-readings" => pack(file, count, |k| generate::reading(seed, k)),
+        "pack-scripts" => pack(file, count, |k| {
+            let input = generate::input(seed, k);
+            // Every fourth keeps the settings behind the script, which makes the length wrong.
+            let whole = k % 4 == 0;
+            if whole {
+                input
+            } else {
+                benchmake::split(&input).0.to_vec()
+            }
+        }),
+        "pack-damaged" => {
+            let scripts = (0..).map(|k| benchmake::split(&generate::input(seed, k)).0.to_vec());
+            pack_first(file, count, scripts.filter(|bytes| script::read(bytes).is_err()))
+        }
+        "pack-makes" => pack_all(file, &makes::calls(seed, count as usize)),
+        "pack-runs" => pack_all(file, &runs::calls(seed, count as usize)),
+        _ => Err(USAGE.to_string()),
+    }
+}
+
+/// Writes the first readable scripts of at most so many bytes.
+fn pack_whole(file: &str, seed: u64, count: u64, most: usize) -> Result<bool, String> {
+    let scripts = (0..).map(|k| benchmake::split(&generate::whole(seed, k)).0.to_vec());
+    let small = scripts.filter(|bytes| bytes.len() <= most);
+    pack_first(file, count, small.filter(|bytes| script::read(bytes).is_ok()))
+}
+
+/// Tells of each input of a packed file what a part gives.
+fn packed(what: &str, file: &str) -> Result<bool, String> {
+    match what {
+        "read" => tell_packed(file, |input| place(script::read(input)) + "\n"),
+        "check" => tell_packed(file, |input| {
             place(script::read(input).and_then(|script| checker::check(&script))) + "\n"
         }),
-        ["pack-makes", file, seed, count] => {
-            let calls = makes::calls(number(seed)?, number(count)? as usize);
-            pack(file, calls.len() as u64, |k| Ok(calls[k as usize].clone()))
-        }
-        ["packed", "benchmake", file] => tell_packed(file, benchmake::benchmake),
-        ["packed", "make", file] => tell_packed(file, makes::told),
-        ["entries", file, fuel, heap, codes, out, ref settings @ ..] => {
-            let bytes = fs::read(file).map_err(|e| format!("{file}: {e}"))?;
-            let lengths = [number(heap)?, number(codes)?, number(out)?].map(|n| n as usize);
-            let setting = |word: &&str| word.parse().map_err(|_| format!("{word} is no setting"));
-            let settings: Result<Vec<i32>, String> = settings.iter().map(setting).collect();
-            print(entries::entries(&bytes, number(fuel)? as u32, lengths, &settings?).as_bytes())
-        }
-        ["differ", program, seed, count] => differ(program, number(seed)?, number(count)?, None),
-        ["differ", program, seed, count, file] => {
-            differ(program, number(seed)?, number(count)?, Some(Path::new(file)))
-        }
+        "benchmake" => tell_packed(file, benchmake::benchmake),
+        "make" => tell_packed(file, makes::told),
+        "run" => tell_packed(file, runs::told),
+        "benchrun" => tell_packed(file, benchrun::benchrun),
+        _ => Err(USAGE.to_string()),
+    }
+}
+
+/// Calls each entry on a script file, with stores and an output of these lengths.
+fn call_entries(
+    file: &str,
+    fuel: u32,
+    lengths: [usize; 3],
+    words: &[&str],
+) -> Result<bool, String> {
+    let bytes = fs::read(file).map_err(|e| format!("{file}: {e}"))?;
+    let number = |word: &&str| word.parse().map_err(|_| format!("{word} is no number"));
+    let numbers: Result<Vec<i32>, String> = words.iter().map(number).collect();
+    print(entries::entries(&bytes, fuel, lengths, &numbers?).as_bytes())
+}
+
+fn program(name: &str) -> Result<differ::Program, String> {
+    match name {
+        "benchmake" => Ok(differ::BENCHMAKE),
+        "benchrun" => Ok(differ::BENCHRUN),
         _ => Err(USAGE.to_string()),
     }
 }
@@ -178,19 +223,20 @@ fn tell(dir: &str, about: impl Fn(&[u8]) -> String) -> Result<bool, String> {
 }
 
 /// Writes inputs into one file, each behind its length in four bytes.
-fn pack(
-    file: &str,
-    count: u64,
-    input: impl Fn(u64) -> Result<Vec<u8>, String>,
-) -> Result<bool, String> {
+fn pack(file: &str, count: u64, input: impl Fn(u64) -> Vec<u8>) -> Result<bool, String> {
     let mut bytes = Vec::new();
     for index in 0..count {
-        let one = input(index)?;
+        let one = input(index);
         bytes.extend((one.len() as u32).to_le_bytes());
         bytes.extend(one);
     }
     fs::write(file, bytes).map_err(|e| format!("{file}: {e}"))?;
     Ok(true)
+}
+
+/// The same for all of some inputs.
+fn pack_all(file: &str, inputs: &[Vec<u8>]) -> Result<bool, String> {
+    pack(file, inputs.len() as u64, |k| inputs[k as usize].clone())
 }
 
 /// The same for the first of some scripts.
@@ -200,7 +246,7 @@ fn pack_first(
     scripts: impl Iterator<Item = Vec<u8>>,
 ) -> Result<bool, String> {
     let first: Vec<_> = scripts.take(count as usize).collect();
-    pack(file, count, |k| Ok(first[k as usize].clone()))
+    pack_all(file, &first)
 }
 
 /// Prints for each input of such a file its number and what is told of it.
@@ -219,50 +265,4 @@ fn tell_packed(file: &str, about: impl Fn(&[u8]) -> String) -> Result<bool, Stri
         index += 1;
     }
     print(lines.as_bytes())
-}
-
-/// Feeds seeded inputs to a program and compares what it prints with the own
-/// answer. The first input that differs is kept in a file.
-fn differ(program: &str, seed: u64, count: u64, keep: Option<&Path>) -> Result<bool, String> {
-    let mut differences = 0;
-    for index in 0..count {
-        let input = generate::input(seed, index);
-        let wanted = benchmake::benchmake(&input);
-        let got = printed_by(program, input.clone())?;
-        if got.as_deref() == Some(wanted.as_bytes()) {
-            continue;
-        }
-        differences += 1;
-        if differences == 1 {
-            println!("input {index}: wanted {:?}", shortened(wanted.as_bytes()));
-            match &got {
-                Some(got) => println!("input {index}: got {:?}", shortened(got)),
-                None => println!("input {index}: ended by a signal"),
-            }
-            if let Some(path) = keep {
-                fs::write(path, &input).map_err(|e| format!("{}: {e}", path.display()))?;
-            }
-        }
-    }
-    println!("{count} inputs, {differences} differences");
-    Ok(differences == 0)
-}
-
-fn shortened(text: &[u8]) -> String {
-    String::from_utf8_lossy(&text[..text.len().min(200)]).into_owned()
-}
-
-/// What a program prints for an input; nothing if a signal ended it.
-fn printed_by(program: &str, input: Vec<u8>) -> Result<Option<Vec<u8>>, String> {
-    let mut child = Command::new(program)
-        .stdin(Stdio::piped())
-        .stdout(Stdio::piped())
-        .spawn()
-        .map_err(|e| format!("{program}: {e}"))?;
-    let mut pipe = child.stdin.take().expect("a pipe to the program");
-    // A program may end before it has read everything.
-    let feeder = thread::spawn(move || pipe.write_all(&input).ok());
-    let output = child.wait_with_output().map_err(|e| format!("{program}: {e}"))?;
-    feeder.join().ok();
-    Ok(output.status.code().map(|_| output.stdout))
 }

@@ -1,5 +1,5 @@
-//! The bench trials, the power script of source document 001, Example 1, and
-//! trials of the parts.
+//! The bench trials, the power script of source document 001, Example 1,
+//! trials of the parts, and those of the plain run.
 
 use crate::assemble::assemble;
 use crate::benchmake::{answer, benchmake, encode_settings, FUEL};
@@ -7,16 +7,17 @@ use crate::checker;
 use crate::generate;
 use crate::lent::{Entry, Memory};
 use crate::listing::{listing, listing_lent, MAX_LISTING};
+use crate::run_checks::run_checks;
 use crate::script::*;
 use crate::specializer::{bare_run, make, Lent, Made};
 
-struct Tally {
+pub struct Tally {
     passed: usize,
     failed: usize,
 }
 
 impl Tally {
-    fn trial<T: PartialEq + std::fmt::Debug>(&mut self, name: &str, got: T, wanted: T) {
+    pub fn trial<T: PartialEq + std::fmt::Debug>(&mut self, name: &str, got: T, wanted: T) {
         if got == wanted {
             self.passed += 1;
         } else {
@@ -33,6 +34,7 @@ pub fn self_check() -> bool {
     power_trials(&mut tally);
     part_trials(&mut tally);
     corpus_trials(&mut tally);
+    run_checks(&mut tally);
     println!("{} passed, {} failed", tally.passed, tally.failed);
     tally.failed == 0
 }

@@ -94,7 +94,7 @@ fn arithmetic(random: &mut Random) -> Vec<u8> {
 }
 
 /// An operation whose exact result is an end of the range or one past it.
-fn range_ends(random: &mut Random) -> Vec<u8> {
+pub fn range_ends(random: &mut Random) -> Vec<u8> {
     let end = random.pick(&[i32::MAX as i64, i32::MIN as i64]);
     let target = end + random.below(2) as i64 * end.signum();
     let (left, right) = (random.next() as i32, random.number());
