@@ -1,5 +1,7 @@
 // A line of numbers, or of bytes.
 use libc::STDOUT_FILENO;
+use text::parts::decimal;
+use text::parts::put_part;
 
 pub(crate) fn first(k: usize) {
     io::print_decimal(STDOUT_FILENO, k as u64);
@@ -10,13 +12,19 @@ pub(crate) fn next(x: usize) {
     io::print_decimal(STDOUT_FILENO, x as u64);
 }
 
-pub(crate) fn signed(z: i32) {
-    if z < 0 {
-        io::write_all(STDOUT_FILENO, b" -");
-        io::print_decimal(STDOUT_FILENO, (-(z as i64)) as u64);
-    } else {
-        next(z as usize);
+// The first n bytes of a text.
+pub(crate) fn bytes(text: &[u8], n: usize) {
+    if n <= text.len() {
+        let first = 0;
+        io::write_all(STDOUT_FILENO, &text[first..n]);
     }
+}
+
+pub(crate) fn signed(z: i32) {
+    let mut space = [0u8; 12];
+    let n = put_part(&mut space, decimal(z));
+    io::write_all(STDOUT_FILENO, b" ");
+    bytes(&space, n);
 }
 
 // Two hexadecimal digits.

@@ -9,10 +9,10 @@ use Rattle.trials.proofs.makes.read_settings.Statement.{statement}
 use Rattle.trials.proofs.makes.read_settings.Tie as tie
 
 abbrev Inv-loop : tie.InvT-loop
-Inv-loop «record» count settings₀ j₀ settings j = (j ≤ count) × (length settings ≡ length settings₀)
+Inv-loop «record» at count settings₀ j₀ settings j = (j ≤ count) × (length settings ≡ length settings₀)
 
 abbrev μ-loop : tie.MeasureT-loop
-μ-loop «record» count settings₀ j₀ settings j = count - j
+μ-loop «record» at count settings₀ j₀ settings j = count - j
 
 loop-again : tie.Need-loop-again Inv-loop μ-loop
 loop-again c =
