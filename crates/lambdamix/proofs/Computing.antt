@@ -16,6 +16,9 @@ use Rattle.lambdamix.specs.Value.{valueAtBy, valueAt, stopNumber, stopPl
 use Rattle.lambdamix.specs.Evaluation.{jobPlace, exactly, branchBy, branch, fresh, apply, unfoldOnce, visitAll, visited, performed, run}
 use Rattle.lambdamix.specs.Specializing.{inputValue, settingsAfter, environmentFrom, inputEnvironment, staticInputs, rootAnswer, rootRun, specialized}
 use Rattle.lambdamix.specs.Specializing.{callRefusal, annotationBy, laterRefusal}
+use Rattle.lambdamix.specs.Erasure.{staticForm, erase, eraseAll}
+use Rattle.lambdamix.specs.PlainRun.{numbersFrom, plainJob, plainRootRun, plainAnswer, plainRun, plainStopNumber, plainRefusal}
+use Rattle.lambdamix.specs.PlainTrials.{numberApplied, functionAdded, liftOfLift, oneBranch, plainTrials}
 use Rattle.lambdamix.specs.Text.{ascii, digitsBy, digitsStep, digits, decimal}
 use Rattle.lambdamix.specs.Listing.{nameBy, nameText, operatorText, formerText, spaced, group, termText, listing}
 use Rattle.lambdamix.specs.Trials.{inputA, inputAWithoutLift, lowestByMinusOne, liftOfFive, capturing, power, trials}
@@ -32,5 +35,6 @@ unfolding maxTypes maxInputs maxNodes maxHeight maxDepth maxFuel programFuel set
     branchBy branch fresh apply unfoldOnce visitAll visited performed run inputValue settingsAfter environmentFrom inputEnvironment
     staticInputs rootAnswer rootRun specialized refusedUnless callRefusal annotationBy laterRefusal ascii digitsBy digitsStep digits decimal
     nameBy nameText operatorText formerText spaced group termText listing inputA inputAWithoutLift lowestByMinusOne liftOfFive capturing power
-    trials
+    trials staticForm erase eraseAll numbersFrom plainJob plainRootRun plainAnswer plainRun plainStopNumber plainRefusal numberApplied functionAdded
+    liftOfLift oneBranch plainTrials
 computing = tt

@@ -23,3 +23,4 @@ pub mod WrittenAgain
 pub mod Finished
 pub mod Computing
 pub mod Trials
+pub mod PlainTrials

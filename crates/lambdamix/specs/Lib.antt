@@ -21,3 +21,4 @@ pub mod Demand
 pub mod Text
 pub mod Listing
 pub mod Trials
+pub mod PlainTrials

@@ -1,2 +1,4 @@
 pub mod Running
 pub mod Erased
+pub mod Exactly
+pub mod Trials

@@ -4,8 +4,6 @@ use mathlib.Core.List.{_++_}
 use lib.IntN.{pos}
 use Rattle.lambdamix.specs.Text.{ascii}
 use Rattle.lambdamix.specs.Trials.{inputA}
-use Rattle.lambdamix.specs.Erasure.{staticForm, erase, eraseAll}
-use Rattle.lambdamix.specs.PlainRun.{numbersFrom, plainJob, plainRootRun, plainAnswer, plainRun, plainRefusal}
 use Rattle.lambdamix.proofs.Computing.{computing}
 use Rattle.script.specs.Bytes.{bits32, bytes32}
 use Rattle.script.specs.File.{fileBytes}
@@ -18,5 +16,5 @@ use Rattle.report.specs.Report.{programRefusal, programRan, stepsText, o
 pub input-a-reported :
     report (fileBytes inputA ++ (ascii "SV" ++ bytes32 (bits32 (pos 40)) ++ (ascii "SV" ++ bytes32 (bits32 (pos 5))))) ≡ ascii "steps 5\n1\n"
 unfolding computing reading headRight scriptLengthBy scriptLength scriptPart settingsPart settingMarked wholeSettings settingAt settings
-    staticForm erase eraseAll numbersFrom plainJob plainRootRun plainAnswer plainRun plainRefusal afterPlain ranUnless pairText programRefusal programRan stepsText outcomeText unfinishedText replyText report
+    afterPlain ranUnless pairText programRefusal programRan stepsText outcomeText unfinishedText replyText report
 input-a-reported = refl

@@ -53,4 +53,3 @@ module _ {bs : List ℕ} {x y : Tables} {r : Reading} (room : longEnough maxType
         script = rw tables (file-held bs x);
         room = rw tables (filled-long maxTypes maxInputs maxNodes (scriptIn bs) x room);
       }
-
