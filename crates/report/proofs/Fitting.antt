@@ -15,7 +15,7 @@ use Rattle.text.proofs.Digits.{digits-within}
 use Rattle.text.proofs.Writing.{join}
 use Rattle.streams.specs.Lines.{pairText}
 use Rattle.streams.specs.Printed.{Prints}
-use Rattle.report.specs.Report.{stepsText, unfinishedText}
+use Rattle.report.specs.Report.{stepsText, unfinishedWord, unfinishedText}
 
 pub steps-placed :
     (k : ℕ) {v x x₁ x₂ y : List ℕ} {a b r : ℕ} → v ≡ ascii "steps " → Placed v 0 x x₁ a → Placed (digits k) a x₁ x₂ b → Placed (ascii "\n") b x₂ y r →
@@ -55,6 +55,7 @@ unfinished-short false n p h k =
     simp length-append (omega (arith, digits-within 19 n (omega arith), digits-within 19 p (omega arith)))
 
 pub prints-unfinished :
-    (b : Bool) (n p : ℕ) → n < 256 → p < 18446744073709551616 → {x y : List ℕ} {r : ℕ} →
-    Placed (unfinishedText b n p) 0 x y r → Prints (unfinishedText b n p) x y r
-prints-unfinished b n p h k l = record { short = unfinished-short b n p h k; placed = l }
+    (b : Bool) (n p : ℕ) → n < 256 → p < 18446744073709551616 → {v w x y : List ℕ} {r : ℕ} → v ≡ unfinishedWord b → w ≡ ascii " " →
+    Placed (pairText v n w p) 0 x y r → Prints (unfinishedText b n p) x y r
+unfolding unfinishedText
+prints-unfinished b n p h k e f l = record { short = unfinished-short b n p h k; placed = rw (← e, ← f) l }

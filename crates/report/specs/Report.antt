@@ -35,9 +35,12 @@ outcomeText (aNumber z) = decimal z
 outcomeText aFunction = ascii "a function"
 
 -- "`refused N P` alone (1 to 13), or `stopped N P` alone"
+abbrev pub unfinishedWord : Bool → List ℕ
+unfinishedWord true = ascii "refused "
+unfinishedWord false = ascii "stopped "
+
 unfoldable pub unfinishedText : Bool → ℕ → ℕ → List ℕ
-unfinishedText true n p = pairText (ascii "refused ") n (ascii " ") p
-unfinishedText false n p = pairText (ascii "stopped ") n (ascii " ") p
+unfinishedText b n p = pairText (unfinishedWord b) n (ascii " ") p
 
 unfoldable pub replyText : Reply → List ℕ
 replyText (ran o k) = stepsText k ++ outcomeText o ++ ascii "\n"

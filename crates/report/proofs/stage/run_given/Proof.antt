@@ -11,11 +11,20 @@ use Rattle.report.proofs.stage.run_given.Tie as tie
 
 part-run-end : tie.Need-part-run-end
 unfolding programSettings maxInputs
-part-run-end c = omega (arith, c .before .before .settings-given .ensures .0, given-most (c .before .before .before .before .before .before .before .before .before .before .before .before .args .rest .now), c .before .before .settings-given .kept)
+part-run-end c =
+    let given = @settings-given in
+    let args = @Start .args in
+    omega (arith, given .ensures .0, given-most (args .rest .now), given .kept)
 
 returns : tie.Need-returns
 unfolding maxFuel maxInputs programSettings
-returns c = runs-given _ _ (c .before .before .before .before .before .before .settings-given .ensures .0) (omega arith) (c .before .before .before .before .before .before .settings-given .ensures .1) refl (c .before .run .ensures)
+returns c =
+    let given = @settings-given in
+    runs-given _ _ (given .ensures .0) (omega arith) (omega arith) (given .ensures .1) refl (@run .ensures)
 
 pub run-given-spec : {M : Type 1} → statement M
-run-given-spec = tie.close (tie.spec (λ c. search needs) (λ c κs. tt) (λ c. search needs) (λ c. search needs) (λ c. search needs) part-run-end (λ c. search needs) (λ c. search needs) (λ c κs. tt) returns)
+run-given-spec =
+    tie.close
+    (tie.spec
+    (λ c. search needs) (λ c κs. tt) (λ c. search needs) (λ c. search needs) (λ c. search needs) part-run-end
+    (λ c. search needs) (λ c. search needs) (λ c κs. tt) returns)
