@@ -1,4 +1,5 @@
--- Inputs of any length are answered by their first `maxBytes` bytes, whatever a program prints by its script and what follows it: a right head's script ends before them, and what follows it is
+-- Inputs of any length are answered by their first `maxBytes` bytes, whatever a program prints by its script and what follows it: a right head's
+-- script ends before them, and what follows it is
 -- then too much for settings; a wrong head is told alone. Assumes nothing.
 use Prim.Native.Nat.{ℕ, _+_, _*_, _/_, _≤_, _<_}
 use mathlib.Core.Path.{_≡_, refl, sym, ap, _∙_}

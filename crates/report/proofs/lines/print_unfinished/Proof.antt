@@ -11,20 +11,20 @@ use Rattle.report.proofs.lines.print_unfinished.Tie as tie
 returns : tie.Need-returns
 unfolding ascii
 returns c =
-    let start = @Start in
-    let refused = @if1 in
+    let start = c .before .before .before .before .before .before .before .before in
+    let refused = c .before .before .before .before .before .before .if1 in
     rw (lt-ltb (start .args .number) 20 (omega (arith, refused .taken)))
     (prints-unfinished true _ _ (omega (arith, start .fits .number)) (omega (arith, start .fits .place)) (search needs) (search needs)
-    (@print-pair .ensures))
+    (c .before .before .print-pair .ensures))
 
 returns-2 : tie.Need-returns-2
 unfolding ascii
 returns-2 c =
-    let start = @Start in
-    let refused = @if1 in
+    let start = c .before .before .before .before .before .before .before .before in
+    let refused = c .before .before .before .before .before .before .if1 in
     rw (le-ltb (start .args .number) 20 (omega (arith, refused .left)))
     (prints-unfinished false _ _ (omega (arith, start .fits .number)) (omega (arith, start .fits .place)) (search needs) (search needs)
-    (@print-pair2 .ensures))
+    (c .before .before .print-pair2 .ensures))
 
 pub print-unfinished-spec : {M : Type 1} → statement M
 print-unfinished-spec =

@@ -12,15 +12,15 @@ use Rattle.report.proofs.stage.run_given.Tie as tie
 part-run-end : tie.Need-part-run-end
 unfolding programSettings maxInputs
 part-run-end c =
-    let given = @settings-given in
-    let args = @Start .args in
+    let given = c .before .before .settings-given in
+    let args = c .before .before .before .before .before .before .before .before .before .before .before .before .args in
     omega (arith, given .ensures .0, given-most (args .rest .now), given .kept)
 
 returns : tie.Need-returns
 unfolding maxFuel maxInputs programSettings
 returns c =
-    let given = @settings-given in
-    runs-given _ _ (given .ensures .0) (omega arith) (omega arith) (given .ensures .1) refl (@run .ensures)
+    let given = c .before .before .before .before .before .before .settings-given in
+    runs-given _ _ (given .ensures .0) (omega arith) (omega arith) (given .ensures .1) refl (c .before .run .ensures)
 
 pub run-given-spec : {M : Type 1} → statement M
 run-given-spec =

@@ -8,7 +8,7 @@ use Rattle.scriptmaker.proofs.run.reply.Tie as tie
 
 returns : tie.Need-returns
 unfolding runReply replied numberIn placeIn stepsIn functionIn valueIn
-returns c = rw (c .before .r .given .1) (search (read (c .known-told .given .0 .1)))
+returns c = rw (c .before .r .given .1) (search (read {z = c .before .r .given .0 .0} (c .known-told .given .0 .1)))
 
 returns-2 : tie.Need-returns-2
 unfolding runReply replied numberIn placeIn stepsIn functionIn valueIn
