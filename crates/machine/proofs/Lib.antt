@@ -9,3 +9,4 @@ pub mod Binding
 pub mod Zeros
 pub mod Inputs
 pub mod Root
+pub mod Given
