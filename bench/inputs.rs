@@ -7,12 +7,17 @@ pub struct Input {
     pub name: String,
     pub script: Script,
     pub settings: Vec<i32>,
+    /// What the plain run takes, one for every input.
+    pub numbers: Vec<i32>,
     pub fuel: u32,
 }
 
-fn input(name: &str, text: &str, settings: &[i32], fuel: u32) -> Input {
+/// Late inputs hold `late` in the plain run.
+pub fn input(name: &str, text: &str, settings: &[i32], late: i32, fuel: u32) -> Input {
     let script = assemble(text).expect("a good text");
-    Input { name: name.to_string(), script, settings: settings.to_vec(), fuel }
+    let mut early = settings.iter().copied();
+    let numbers = script.inputs.iter().map(|&t| if t == 0 { early.next().expect("a setting") } else { late }).collect();
+    Input { name: name.to_string(), script, settings: settings.to_vec(), numbers, fuel }
 }
 
 /// A balanced tree of late sums over so many leaves.
@@ -29,7 +34,7 @@ const POWER: &str = "(fix (lam v2 t3 (lam v3 S (lam v4 D
 
 pub fn power(n: i32, fuel: u32) -> Input {
     let text = format!("(script (types (D D) (S t2) (t3 t3)) (inputs S D) (app (app {POWER} i0) i1))");
-    input(&format!("power, n {n}, fuel {fuel}"), &text, &[n], fuel)
+    input(&format!("power, n {n}, fuel {fuel}"), &text, &[n], 1, fuel)
 }
 
 /// A sum of powers, some 1,000 steps each.
@@ -37,20 +42,20 @@ pub fn powers(fuel: u32) -> Input {
     let sum = tree(fuel as usize / 1000, "(app (app v5 i0) i1)");
     let types = "(types (D D) (S t2) (t3 t3) (t3 D))";
     let text = format!("(script {types} (inputs S D) (app (lam v5 t3 {sum}) {POWER}))");
-    input(&format!("sum of powers, fuel {fuel}"), &text, &[60], fuel)
+    input(&format!("sum of powers, fuel {fuel}"), &text, &[60], 1, fuel)
 }
 
 /// Late functions, so many inside each other, around a tree whose leaves name the outermost.
 pub fn environment(depth: usize, leaves: usize) -> Input {
     let open: String = (1..=depth).map(|name| format!("(_lam v{name} ")).collect();
     let text = format!("(script (types) (inputs D) {open}{}{})", tree(leaves, "v1"), ")".repeat(depth));
-    input(&format!("environment {depth} deep, {leaves} lookups"), &text, &[], 16000)
+    input(&format!("environment {depth} deep, {leaves} lookups"), &text, &[], 1, 16000)
 }
 
 /// A late tree with so many nodes (odd).
 pub fn wide(nodes: usize) -> Input {
     let text = format!("(script (types) (inputs D) {})", tree(nodes.div_ceil(2), "i0"));
-    input(&format!("wide late tree, {nodes} nodes"), &text, &[], 16000)
+    input(&format!("wide late tree, {nodes} nodes"), &text, &[], 1, 16000)
 }
 
 /// 64 types of which the last two are used, 4,096 nodes, height 256: functions that are arguments of functions, which call the
@@ -102,7 +107,7 @@ pub fn typed() -> Input {
     };
     let text = format!("{}(_app {text} {filler}){}", "(_fix ".repeat(fixes), ")".repeat(fixes));
     let text = format!("(script (types {listed}) (inputs) {text})");
-    let made = input("4,096 nodes, height 256, 64 types", &text, &[], 16000);
+    let made = input("4,096 nodes, height 256, 64 types", &text, &[], 1, 16000);
     assert_eq!((made.script.nodes.len(), self::height(&made.script), made.script.types.len()), (4096, 256, 64));
     made
 }
@@ -121,5 +126,26 @@ pub fn doubled(n: i32) -> Input {
     let text = "(script (types (D D) (S D) (t3 t3)) (inputs S D)
         (app (fix (lam v2 t3 (lam v3 S (if (= v3 0) i1
             (app (lam v4 D (_+ v4 v4)) (app v2 (- v3 1))))))) i0))";
-    input(&format!("code doubled {n} times (26)"), text, &[n], 16000)
+    input(&format!("code doubled {n} times (26)"), text, &[n], 0, 16000)
+}
+
+/// Late functions, so many inside each other and each applied, around a tree whose leaves name the outermost: the plain run goes
+/// through all of them at each leaf.
+pub fn applied(depth: usize, leaves: usize) -> Input {
+    let open: String = (1..=depth).map(|name| format!("(_app (_lam v{name} ")).collect();
+    let text = format!("(script (types) (inputs D) {open}{}{})", tree(leaves, "v1"), ") i0)".repeat(depth));
+    input(&format!("applied functions {depth} deep, {leaves} lookups"), &text, &[], 1, 16000)
+}
+
+/// Two calls in each call, not deep but without end for any fuel.
+pub fn calls(fuel: u32) -> Input {
+    let text = "(script (types (S S) (t2 t2)) (inputs) (app (fix (lam v1 t2 (lam v2 S
+        (if (= v2 0) 1 (+ (app v1 (- v2 1)) (app v1 (- v2 1))))))) 40))";
+    input(&format!("calls, fuel {fuel} (22)"), text, &[], 0, fuel)
+}
+
+/// Input A of the paper.
+pub fn a(fuel: u32) -> Input {
+    let text = "(script (types) (inputs S D) (_< i1 (lift (* i0 100))))";
+    input(&format!("input A, fuel {fuel}"), text, &[40], 5, fuel)
 }

@@ -1,5 +1,5 @@
-//! Times the proved library against the second implementation and a version tuned by hand, on the same inputs in the same run, and
-//! asserts that all three reply alike. Prints a table, and writes the growth of cost to an SVG file.
+//! Times the proved library against the second implementation and versions tuned by hand, on the same inputs in the same run, and
+//! asserts that all reply alike. Prints a table, and writes the growth of cost to an SVG file.
 
 #[path = "../tests/reference/src/assemble.rs"]
 #[allow(dead_code)]
@@ -9,6 +9,8 @@ mod checker;
 #[path = "../tests/reference/src/listing.rs"]
 #[allow(dead_code)]
 mod listing;
+#[path = "../tests/reference/src/plain.rs"]
+mod plain;
 #[path = "../tests/reference/src/script.rs"]
 #[allow(dead_code)]
 mod script;
@@ -25,13 +27,13 @@ use inputs::Input;
 use specializer::Lent;
 use std::hint::black_box;
 use std::process::ExitCode;
-use tuned::Reply;
+use tuned::{Reply, RunReply};
 
 const REPEATS: usize = 25;
 /// How long a batch of calls takes at least, in seconds.
 const BATCH: f64 = 0.002;
 
-/// One input in the form of each of the three.
+/// One input in the form of each.
 struct Case {
     input: Input,
     file: Vec<u8>,
@@ -39,6 +41,7 @@ struct Case {
     stores: scriptmaker::Stores,
     tuned: tuned::Script,
     tuned_stores: tuned::Stores,
+    further_heap: Vec<tuned::Place>,
     scratch: Box<tuned::Scratch>,
     out: Vec<u8>,
     text: Vec<u8>,
@@ -58,6 +61,7 @@ impl Case {
         Case {
             stores: scriptmaker::Stores::new(input.fuel),
             tuned_stores: tuned::Stores::new(input.fuel),
+            further_heap: tuned::heap(input.fuel),
             scratch: tuned::Scratch::new(),
             out: vec![0; scriptmaker::MAX_FILE],
             text: vec![0; scriptmaker::MAX_LISTING],
@@ -114,6 +118,56 @@ impl Case {
         self.tuned.list(&mut self.scratch, &mut self.text).expect("room for any listing")
     }
 
+    fn run_library(&mut self) -> RunReply {
+        match self.library.run(&self.input.numbers, self.input.fuel, &mut self.stores.heap) {
+            Ok(ran) => match ran.outcome {
+                scriptmaker::Outcome::Number(value) => RunReply::number(value, ran.steps),
+                scriptmaker::Outcome::Function => RunReply::function(ran.steps),
+            },
+            Err(f) => RunReply::unfinished(f.number, f.place, f.steps),
+        }
+    }
+
+    fn run_tuned(&mut self) -> RunReply {
+        self.tuned.plain_run(&self.input.numbers, self.input.fuel, &mut self.scratch, &mut self.tuned_stores)
+    }
+
+    fn run_further(&mut self) -> RunReply {
+        self.tuned.further_run(&self.input.numbers, self.input.fuel, &mut self.scratch, &mut self.further_heap)
+    }
+
+    fn run_reference(&mut self) -> RunReply {
+        let (fuel, heap) = (self.input.fuel as usize, self.stores.heap.len());
+        match plain::run_file(&self.file, &self.input.numbers, fuel, heap) {
+            Ok(ran) => match ran.outcome {
+                plain::Outcome::Number(value) => RunReply::number(value, ran.steps as u16),
+                plain::Outcome::Function => RunReply::function(ran.steps as u16),
+            },
+            Err(f) => RunReply::unfinished(f.number, f.place, f.steps as u16),
+        }
+    }
+
+    /// The code that the library makes of this case, as a case of its own.
+    fn code(mut self) -> Case {
+        let made = self.library.make(&self.input.settings, self.input.fuel, &mut self.stores, &mut self.out);
+        let length = made.expect("finished code").length;
+        let script = script::read(&self.out[..length]).expect("past 1 to 8");
+        Case::new(Input { name: format!("code of {}", self.input.name), script, ..self.input })
+    }
+
+    /// All reply alike to the plain run; library and tuned versions leave zeros in the heap.
+    fn agree_in_run(&mut self) -> RunReply {
+        self.stores.heap.fill(u64::MAX);
+        let library = self.run_library();
+        assert!(self.stores.heap.iter().all(|&x| x == 0), "{}", self.input.name);
+        assert_eq!(library, self.run_tuned(), "{}", self.input.name);
+        assert!(self.tuned_stores == tuned::Stores::new(self.input.fuel), "{}", self.input.name);
+        assert_eq!(library, self.run_further(), "{}", self.input.name);
+        assert!(self.further_heap == tuned::heap(self.input.fuel), "{}", self.input.name);
+        assert_eq!(library, self.run_reference(), "{}", self.input.name);
+        library
+    }
+
     /// All three reply alike, and leave the same file and the same listing.
     fn agree(&mut self) -> Reply {
         let length = self.list_library();
@@ -147,6 +201,13 @@ impl Case {
 }
 
 type Job = (&'static str, fn(&mut Case));
+
+const RUN: [Job; 4] = [
+    ("library", |c| _ = black_box(c.run_library())),
+    ("reference", |c| _ = black_box(c.run_reference())),
+    ("tuned", |c| _ = black_box(c.run_tuned())),
+    ("further tuned", |c| _ = black_box(c.run_further())),
+];
 
 const MAKE: [Job; 3] = [
     ("library", |c| _ = black_box(c.make_library())),
@@ -227,27 +288,16 @@ fn row(what: &str, case: &mut Case, jobs: &[Job]) -> Vec<f64> {
     taken.iter().map(|xs| xs.iter().copied().fold(f64::MAX, f64::min)).collect()
 }
 
-const USAGE: &str = "bench PLOT (a file to write), bench stack, or bench once JOB INPUT (make-library, check-tuned, list-reference \
-                     and the like; 0 to 5)";
+const USAGE: &str = "bench PLOT (a file to write), bench stack, or bench once JOB INPUT (make-library, check-tuned, \
+                     list-reference, run-further and the like; 0 to 5, for run 0 to 11)";
 
 fn main() -> ExitCode {
     let words: Vec<String> = std::env::args().skip(1).collect();
     let words: Vec<&str> = words.iter().map(String::as_str).collect();
-    let cases = || {
-        let all = vec![
-            inputs::power(249, 4000),
-            inputs::powers(16000),
-            inputs::environment(240, 1900),
-            inputs::wide(4095),
-            inputs::typed(),
-            inputs::doubled(200),
-        ];
-        all.into_iter().map(Case::new).collect::<Vec<Case>>()
-    };
     let done = match words[..] {
-        ["once", job, index] => once(&mut cases(), job, index),
+        ["once", job, index] => once(job, index),
         ["stack"] => Some(stack::report()),
-        [plot] if plot != "once" && !plot.starts_with('-') => Some(all(&mut cases(), plot)),
+        [plot] if plot != "once" && !plot.starts_with('-') => Some(all(plot)),
         _ => None,
     };
     if done.is_none() {
@@ -257,16 +307,38 @@ fn main() -> ExitCode {
     ExitCode::SUCCESS
 }
 
-/// 20 calls of one job on one input, for a profiler; nothing where there is no such job or input.
-fn once(cases: &mut [Case], job: &str, index: &str) -> Option<()> {
+/// What every job is timed on.
+fn cases() -> Vec<Case> {
+    let all = vec![
+        inputs::power(249, 4000),
+        inputs::powers(16000),
+        inputs::environment(240, 1900),
+        inputs::wide(4095),
+        inputs::typed(),
+        inputs::doubled(200),
+    ];
+    all.into_iter().map(Case::new).collect()
+}
+
+/// What the plain run is timed on besides: finished code, a walk of deep environments, a long run and short ones.
+fn run_cases() -> Vec<Case> {
+    let made = [inputs::power(249, 4000), inputs::wide(4095)].map(|input| Case::new(input).code());
+    let others = [inputs::applied(120, 1800), inputs::calls(16000), inputs::a(100), inputs::a(16000)];
+    made.into_iter().chain(others.map(Case::new)).collect()
+}
+
+/// 20 calls of one job on one input, for a profiler; nothing where there is no such job or input. The first word of a job's name will
+/// do.
+fn once(job: &str, index: &str) -> Option<()> {
     let (what, who) = job.split_once('-')?;
-    let jobs: &[Job] = match what {
-        "make" => &MAKE,
-        "check" => &CHECK,
-        "list" => &LIST,
+    let (jobs, mut cases): (&[Job], Vec<Case>) = match what {
+        "make" => (&MAKE, cases()),
+        "check" => (&CHECK, cases()),
+        "list" => (&LIST, cases()),
+        "run" => (&RUN, cases().into_iter().chain(run_cases()).collect()),
         _ => return None,
     };
-    let job = jobs.iter().find(|job| job.0 == who)?;
+    let job = jobs.iter().find(|job| job.0 == who || job.0.split(' ').next() == Some(who))?;
     let case = cases.get_mut(index.parse::<usize>().ok()?)?;
     println!("{}", case.input.name);
     for _ in 0..20 {
@@ -275,11 +347,16 @@ fn once(cases: &mut [Case], job: &str, index: &str) -> Option<()> {
     Some(())
 }
 
-fn all(cases: &mut [Case], plot_to: &str) {
+fn all(plot_to: &str) {
+    let (mut cases, mut run_cases) = (cases(), run_cases());
     println!("Time of a call, and its ratio to the others' (median of {REPEATS} repeats, 10th to 90th percentile)");
     for case in cases.iter_mut() {
         let reply = case.agree();
         println!("       {}: {reply:?}", case.input.name);
+    }
+    for case in cases.iter_mut().chain(&mut run_cases) {
+        let reply = case.agree_in_run();
+        println!("       run of {}: {reply:?}", case.input.name);
     }
     for case in cases.iter_mut() {
         row("check", case, &CHECK);
@@ -290,6 +367,9 @@ fn all(cases: &mut [Case], plot_to: &str) {
     for case in cases.iter_mut() {
         row("list", case, &LIST);
     }
+    for case in cases.iter_mut().chain(&mut run_cases) {
+        row("run", case, &RUN);
+    }
     let mut panels = vec![];
     let fuels: Vec<u32> = (0..5).map(|k| 1000 << k).collect();
     let runs: Vec<(f64, Input)> = fuels.iter().map(|&fuel| (fuel as f64, inputs::powers(fuel))).collect();
@@ -299,6 +379,8 @@ fn all(cases: &mut [Case], plot_to: &str) {
     panels.push(grow("check", "nodes", &CHECK, trees));
     let trees: Vec<(f64, Input)> = sizes.map(|nodes| (nodes as f64, inputs::wide(nodes))).collect();
     panels.push(grow("make", "nodes", &MAKE, trees));
+    let runs: Vec<(f64, Input)> = fuels.iter().map(|&fuel| (fuel as f64, inputs::calls(fuel))).collect();
+    panels.push(grow("run", "fuel", &RUN, runs));
     std::fs::write(plot_to, plot::svg(&panels)).expect("the plot");
     println!("growth: {plot_to}");
     stack::report();
@@ -311,6 +393,7 @@ fn grow(what: &str, size: &str, jobs: &[Job], over: Vec<(f64, Input)>) -> plot::
     for (x, input) in over {
         let mut case = Case::new(input);
         case.agree();
+        case.agree_in_run();
         let least = row(what, &mut case, jobs);
         for (line, y) in lines.iter_mut().zip(least) {
             line.points.push((x, y * 1e6));

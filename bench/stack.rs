@@ -46,6 +46,19 @@ fn bare(script: &Script, settings: &[i32]) -> (usize, (u8, u16)) {
     (bytes, reply)
 }
 
+/// A plain run of the same.
+fn plain(script: &Script) -> (usize, (u8, u16)) {
+    let library = library(script);
+    let numbers = vec![0; script.inputs.len()];
+    let mut stores = scriptmaker::Stores::new(16000);
+    let mut reply = (0, 0);
+    let bytes = taken(|| {
+        let ran = library.run(&numbers, 16000, &mut stores.heap);
+        reply = ran.map_or_else(|f| (f.number, f.steps), |ran| (0, ran.steps));
+    });
+    (bytes, reply)
+}
+
 /// Around a hole `_`: each way in which a step stands right below another.
 const NESTS: [(&str, &str); 20] = [
     ("lift", "(lift _)"),
@@ -69,6 +82,9 @@ const NESTS: [(&str, &str); 20] = [
     ("unfolding of fix values", "(app (app (fix (lam v7 t2 (lam v8 S _))) 1) 1)"),
     ("application of a branch", "(app (if 1 (lam v9 S _) 1) 1)"),
 ];
+
+/// The ways that the plain run goes too.
+const PLAIN: [&str; 4] = ["application, body", "if, branch", "operation, second", "unfolding of fix values"];
 
 /// A run without end, in which so many steps of one sort stand inside each other in each unfolding.
 fn endless(nest: &str) -> Script {
@@ -103,6 +119,11 @@ pub fn report() {
         println!("       depth 2,000 by {name:<28} {bytes:>9} (reply {number} after {steps} steps)");
         most = most.max(bytes);
     }
+    for (name, nest) in NESTS.into_iter().filter(|nest| PLAIN.contains(&nest.0)) {
+        let (bytes, (number, steps)) = plain(&endless(nest));
+        println!("       plain run, 2,000 by {name:<23} {bytes:>9} (reply {number} after {steps} steps)");
+        most = most.max(bytes);
+    }
     let high = chain(4096);
     let bytes = taken(|| assert_eq!(high.check().map_err(|f| f.number), Err(7)));
     println!("       check of a chain of 4,096 nodes            {bytes:>9} (refused 7)");
@@ -133,6 +154,5 @@ fn deep_code() -> crate::inputs::Input {
     let around = "(_fix ".repeat(230) + "v4" + &")".repeat(230);
     let calls = (0..60).fold("i1".to_string(), |inner, _| format!("(app v5 {inner})"));
     let text = format!("(script (types (D D) (t2 D)) (inputs S D) (app (lam v5 t2 {calls}) (lam v4 D {around})))");
-    let script = assemble(&text).expect("a good text");
-    crate::inputs::Input { name: "code 13,800 deep".to_string(), script, settings: vec![0], fuel: 16000 }
+    crate::inputs::input("code 13,800 deep", &text, &[0], 1, 16000)
 }
