@@ -3,8 +3,8 @@
 use libc::STDIN_FILENO;
 use libc::STDOUT_FILENO;
 use respond::answer::respond;
-use respond::limits::MAX_BYTES;
 use script::Writing;
+use streams::limits::MAX_BYTES;
 
 // Whether another buffer of standard input was full.
 fn more() -> bool {

@@ -3,8 +3,8 @@
 use libc::STDIN_FILENO;
 use libc::STDOUT_FILENO;
 use report::answer::respond;
-use report::limits::MAX_BYTES;
 use script::Writing;
+use streams::limits::MAX_BYTES;
 
 // Whether another buffer of standard input was full.
 fn more() -> bool {

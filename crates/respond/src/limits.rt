@@ -1,4 +1,4 @@
-// What the program's answer works with, each in one place: its fuel, the places of the stores that suffice for every script, and the most bytes of a file and of an answer.
+// What the answer of `benchmake` works with, each in one place: its fuel, and the places of the stores that suffice for every script.
 use script::limits::MAX_INPUTS;
 
 pub const FUEL: usize = 4000;
@@ -6,5 +6,3 @@ pub const FUEL: usize = 4000;
 pub const HEAP: usize = FUEL + MAX_INPUTS;
 
 pub const CODES: usize = 2 * FUEL + MAX_INPUTS;
-
-pub const MAX_BYTES: usize = 65536;

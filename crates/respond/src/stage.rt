@@ -2,7 +2,6 @@
 use crate::limits::CODES;
 use crate::limits::FUEL;
 use crate::limits::HEAP;
-use crate::limits::MAX_BYTES;
 use lambdamix::Mode;
 use printer::list::list;
 use reading::reader::read;
@@ -15,6 +14,7 @@ use script::limits::MAX_NODES;
 use script::limits::MAX_TYPES;
 use script::place::file_size;
 use specializer::make::make;
+use streams::limits::MAX_BYTES;
 use streams::limits::SETTINGS;
 use streams::print::print_counts;
 use streams::print::print_unmade;

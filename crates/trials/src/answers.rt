@@ -3,8 +3,8 @@ use crate::print;
 use libc::STDOUT_FILENO;
 use report::answer as for_running;
 use respond::answer as for_making;
-use respond::limits::MAX_BYTES;
 use script::Writing;
+use streams::limits::MAX_BYTES;
 
 fn print_text(k: usize, text: &[u8], n: usize) {
     print::first(k);

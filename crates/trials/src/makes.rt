@@ -8,11 +8,11 @@ use lambdamix::Mode;
 use machine::limits::MAX_FUEL;
 use reading::bytes;
 use residual::Reply;
-use respond::limits::MAX_BYTES;
 use script::Counts;
 use script::column;
 use script::limits::MAX_INPUTS;
 use script::place::file_size;
+use streams::limits::MAX_BYTES;
 ghost use Prim.Native.Nat.{_≤_};
 
 // Places of the stores that suffice for every call.
