@@ -48,15 +48,16 @@ module _ (i fuel : ℕ) (s : State) (w : ℕ) where
 
 -- all nodes were erased for a run
 pub erased-runs :
-    {n : Counts} {es : List ℕ} {zs : List ℤ} {fuel k : ℕ} {heap : List ℕ} {r : Told.Reply} (ws : List ℕ) → k ≡ n .nodes → es ≡ erasedTo k ws →
-    RunsNodes n es zs fuel heap r → RunsNodes n (erasedTo (n .nodes) ws) zs fuel heap r
+    {n : Counts} {es : List ℕ} {zs : List ℤ} {fuel k : ℕ} {heap : List ℕ} {r : Told.Reply} (ws : List ℕ) →
+    k ≡ n .nodes → es ≡ erasedTo k ws → RunsNodes n es zs fuel heap r → RunsNodes n (erasedTo (n .nodes) ws) zs fuel heap r
 erased-runs {n} {es} {zs} {fuel} {heap} {r} ws e f h =
     subst (λ j. RunsNodes n (erasedTo j ws) zs fuel heap r) e (subst (λ xs. RunsNodes n xs zs fuel heap r) f h)
 
 -- The run: from the state in s₀ that the start gives, the visit of what stands for the root gives the word q and the state in st, whose answer is told.
 pub run-told :
     {n : Counts} {ws : List ℕ} {zs : List ℤ} {fuel root top d e : ℕ} {heap : List ℕ} {after : Stores} {x k : List ℕ} {r : Told.Reply} (q s₀ st : ℕ) →
-    root ≡ n .nodes - 1 → top ≡ target ws root → d ≡ maxDepth → startedWith (stateIn s₀) x k ≡ plainStart n zs fuel heap → e ≡ stateIn s₀ .heap →
+    root ≡ n .nodes - 1 → top ≡ target ws root → d ≡ maxDepth →
+    startedWith (stateIn s₀) x k ≡ plainStart n zs fuel heap → e ≡ stateIn s₀ .heap →
     ended (answerIn q (stateIn st)) after ≡ run (columnsIn ws) d (visit e top) (stateIn s₀) (stores x k) →
     replied r ≡ afterAnswer root (answerIn q (stateIn st)) fuel → RunsNodes n ws zs fuel heap r
 unfolding plainOut rootOut

@@ -30,9 +30,9 @@ use Rattle.report.proofs.GivenNumbers.{given-ran}
 
 -- the call with the numbers that were given is the call with the numbers behind the script
 pub runs-given :
-    {n : Counts} {x : Tables} {ws : List ℤ} {count fuel : ℕ} {before after : List ℕ} {r : Reply} (zs : List ℤ) (rest : List ℕ) → count ≡ givenCount rest →
-    fuel ≡ maxFuel → programSettings ≤ length zs → (programSettings ≤ length zs → ws ≡ over (givenSettings rest) zs) → heapSuffices maxFuel (length
-    before) ≡ true →
+    {n : Counts} {x : Tables} {ws : List ℤ} {count fuel : ℕ} {before after : List ℕ} {r : Reply} (zs : List ℤ) (rest : List ℕ) →
+    count ≡ givenCount rest → fuel ≡ maxFuel → programSettings ≤ length zs →
+    (programSettings ≤ length zs → ws ≡ over (givenSettings rest) zs) → heapSuffices maxFuel (length before) ≡ true →
     Runs n x (take (count - 0) (drop 0 ws)) fuel before after r → RunsGiven n x rest r
 runs-given {before = before} zs rest e f l d enough m =
     let k = rw (first-given zs rest e l d, f) at m in
