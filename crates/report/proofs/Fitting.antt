@@ -6,7 +6,6 @@ use mathlib.Core.List.{List, _++_}
 use native.Mathlib.Omega.{arith}
 use lib.IntN.{ℤ, pos, negsuc}
 use lib.ListN.{length, length-append}
-use lib.Dec.{ltb}
 use Rattle.lambdamix.specs.Limits.{maxBytes}
 use Rattle.lambdamix.specs.Arithmetic.{Fits32}
 use Rattle.lambdamix.specs.Text.{ascii, digits, decimal}

@@ -4,7 +4,6 @@ use Prim.Native.Nat.{ℕ, _/_, _≤_}
 use mathlib.Core.Path.{_≡_, refl, sym, _∙_}
 use mathlib.Core.Bool.{Bool, true, false, _&&_}
 use mathlib.Core.List.{List}
-use mathlib.Core.Option.{Option, some}
 use native.Mathlib.Omega.{arith}
 use lib.IntN.{ℤ}
 use lib.ListN.{length}
@@ -12,7 +11,7 @@ use lib.Dec.{ltb}
 use borrow.Author.Tests.{ne-eqb, ltb-false}
 use Rattle.lambdamix.specs.Limits.{maxInputs, maxFuel}
 use Rattle.lambdamix.specs.Script.{Script, inputCount}
-use Rattle.lambdamix.specs.Refusal.{Refusal, refusal, orElse, refusedUnless}
+use Rattle.lambdamix.specs.Refusal.{refusal, orElse, refusedUnless}
 use Rattle.lambdamix.specs.PlainRun.{plainRefusal}
 use Rattle.script.specs.File.{numbered}
 use Rattle.script.proofs.Numbered.{length-numbered}

@@ -1,14 +1,11 @@
 -- The first `maxBytes` bytes of an input decide what `benchrun` prints for it: numbers that are too many for any script are 12. Assumes nothing.
-use Prim.Native.Nat.{ℕ, _/_, _≤_}
+use Prim.Native.Nat.{ℕ, _≤_}
 use mathlib.Core.Path.{_≡_, ap}
 use mathlib.Core.List.{List}
-use mathlib.Core.Option.{none}
 use lib.ListN.{length, take}
 use Rattle.lambdamix.specs.Limits.{maxBytes}
 use Rattle.lambdamix.specs.Refusal.{orElse}
 use Rattle.script.specs.File.{scriptIn}
-use Rattle.script.specs.Refusals.{fileRefusal}
-use Rattle.streams.specs.Given.{programSettings}
 use Rattle.streams.proofs.Files.{few-inputs}
 use Rattle.streams.proofs.Longer.{TellsMany, first-bytes}
 use Rattle.report.specs.Report.{programRefusal, programRan, replyText, report}

@@ -1,14 +1,14 @@
 -- A file that passes 1 to 8 is read, and its listing is printed behind the counts. Assumes nothing.
 use Prim.Native.Nat.{ℕ, _-_, _≤_, min}
-use mathlib.Core.Path.{_≡_, refl, sym, ap, _∙_, subst}
+use mathlib.Core.Path.{_≡_, sym, ap, _∙_, subst}
 use mathlib.Core.Bool.{true}
 use mathlib.Core.List.{List}
-use mathlib.Core.Option.{none, some}
+use mathlib.Core.Option.{none}
 use native.Mathlib.Omega.{arith}
 use lib.ListN.{length, take, drop, length-append}
 use Rattle.lambdamix.specs.Limits.{maxTypes, maxInputs, maxNodes, maxBytes}
 use Rattle.lambdamix.specs.Script.{nodeCount}
-use Rattle.lambdamix.specs.Refusal.{Refusal, orElse, refusedUnless}
+use Rattle.lambdamix.specs.Refusal.{Refusal}
 use Rattle.lambdamix.specs.Listing.{listing}
 use Rattle.script.specs.declared.Counts.{Counts}
 use Rattle.script.specs.declared.Refusal as Told
@@ -17,12 +17,9 @@ use Rattle.script.specs.declared.Reading.the-variants as Reading
 use Rattle.script.specs.File.{fileLength, headTypes, headInputs, headNodes, scriptIn}
 use Rattle.script.specs.Refusals.{fileRefusal}
 use Rattle.file.specs.Encodable.{AllBytes}
-use Rattle.script.specs.Tables.{Tables, filled, longEnough, readRefusal, readTables}
+use Rattle.script.specs.Tables.{Tables, longEnough}
 use Rattle.script.specs.Replies.{headCounts, Reads}
-use Rattle.script.specs.Verdicts.{reading}
-use Rattle.script.proofs.ReplyLaws.{read-answer}
 use Rattle.script.proofs.Sound.{in-limits}
-use Rattle.reading.proofs.FillLaws.{file-held, filled-long}
 use Rattle.file.proofs.FileLaws.{read-fits, script-counts, script-passes}
 use Rattle.printer.specs.ListCalls.{tablesText}
 use Rattle.text.proofs.Writing.{join}

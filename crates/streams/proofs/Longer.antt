@@ -7,15 +7,15 @@ use mathlib.Core.Bool.{Bool, true, false, _&&_, true≢false}
 use mathlib.Core.List.{List}
 use mathlib.Core.Option.{Option, none, some}
 use native.Mathlib.Omega.{arith}
-use lib.ListN.{length, take, replicate, length-drop}
+use lib.ListN.{length, take, length-drop}
 use lib.Seq.{take-all, take-take, getD-take, length-take-le}
-use lib.Dec.{leb, ltb}
+use lib.Dec.{leb}
 use borrow.Author.Tests.{le-leb}
 use Rattle.lambdamix.specs.Limits.{maxTypes, maxInputs, maxNodes, maxBytes}
 use Rattle.lambdamix.specs.Refusal.{Refusal, orElse, refusedUnless}
 use Rattle.lambdamix.proofs.Tests.{and-both}
 use Rattle.script.specs.Bytes.{byteAt, number16}
-use Rattle.script.specs.File.{fileLength, nodeOffset, headTypes, headInputs, headNodes, scriptIn}
+use Rattle.script.specs.File.{fileLength, nodeOffset, headTypes, headInputs, headNodes}
 use Rattle.script.specs.Refusals.{marked, headMarked, countsRight, fileRefusal, headRefusal}
 use Rattle.script.proofs.Sound.{in-limits}
 use Rattle.streams.specs.Input.{headRight, scriptLengthBy, scriptLength, scriptPart, settingsPart}
