@@ -2,14 +2,14 @@
 -- it. Assumes nothing.
 use Prim.Native.Nat.{ℕ, zero, suc, _+_, _≤_, _<_}
 use mathlib.Core.Path.{_≡_, refl, sym, ap, _∙_}
-use mathlib.Core.Bool.{Bool, true, false}
+use mathlib.Core.Bool.{Bool, true, false, _||_}
 use mathlib.Core.List.{List, [], _∷_}
 use mathlib.Core.Option.{Option, none, some}
 use native.Mathlib.Omega.{arith}
 use native.Mathlib.Numerals.{add-one}
 use lib.ListN.{getD, length, set, length-set}
 use lib.Seq.{getD-set-same, getD-set-other}
-use lib.Dec.{leb}
+use lib.Dec.{leb, eqb}
 use borrow.Author.Tests.{leb-true, leb-false, eq-eqb, ne-eqb}
 use Rattle.lambdamix.specs.Falling.{below}
 use Rattle.lambdamix.specs.Structure.{lowest, lowestBy, member}
@@ -70,6 +70,16 @@ module _ (xs : List ℕ) (d x : ℕ) {f g : Bool} (seen : f ≡ member x (innerm
   pub found-before : (getD xs d 0 ≡ x → ⊥) → g ≡ f → g ≡ member x (innermost xs (d + 1))
   unfolding innermost member
   found-before h e = e ∙ seen ∙ rw (add-one d, ne-eqb _ _ h)
+
+-- what is found among some is found among one more, and among all further ones
+found-after : (b : Bool) {c : Bool} → true ≡ c → true ≡ (b || c)
+found-after true h = refl
+found-after false h = h
+
+pub found-further : (xs : List ℕ) (x d k : ℕ) → true ≡ member x (innermost xs d) → true ≡ member x (innermost xs (k + d))
+unfolding innermost member
+found-further xs x d zero h = let e : 0 + d ≡ d = omega arith in rw e h
+found-further xs x d (suc k) h = let e : suc k + d ≡ suc (k + d) = omega arith in rw e (found-after (eqb (getD xs (k + d) 0) x) (found-further xs x d k h))
 
 -- ---- places in one number
 

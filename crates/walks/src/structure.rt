@@ -23,6 +23,7 @@ use script::word::field_c;
 use script::word::kind;
 use script::word::node_word;
 ghost use mathlib.Core.Path.{_≡_};
+ghost use mathlib.Core.Bool.{false};
 ghost use mathlib.Core.List.{[], _∷_};
 ghost use mathlib.Core.Option.{none};
 ghost use Prim.Native.Nat.{min, _≤_, _<_, _+_, _-_};
@@ -42,6 +43,9 @@ const HIGHEST: u32 = MAX_HEIGHT as u32;
 
 // The place that is none.
 const NOWHERE: u16 = 65535;
+
+// How many of the names around a node are looked at together.
+const STRIDE: usize = 32;
 
 // One more use of a node, counted up to two.
 fn count_one(counts: &mut [u8], m: NodeNumber)
@@ -230,20 +234,48 @@ fn height_child(nodes: &&[u64], i: NodeNumber, m: NodeNumber) -> u32
     1
 }
 
-// Whether a name is among those of the enclosing binders, which are the first of the list.
-fn is_bound(names: &[u16; MAX_HEIGHT], depth: usize, x: Name) -> bool
-    requires { ⌜ depth ≤ maxHeight ⌝ }
-    ensures { λ r. ⌜ r ≡ member (x .0) (innermost (now (names .entry)) depth) ⌝ }
+// The end of the next names that are looked at together.
+fn stride_end(d: usize, depth: usize) -> usize
+    requires { ⌜ d < depth ⌝ }
+    ensures { λ r. ⌜ (d < r) × (r ≤ depth) ⌝ }
+{
+    if depth - d < STRIDE {
+        return depth;
+    }
+    d + STRIDE
+}
+
+// Whether a name is among the first `end` of a list, where it is not among the first `from`: each of the others is looked at, without a branch.
+fn is_among(names: &[u16; MAX_HEIGHT], from: usize, end: usize, x: Name) -> bool
+    requires { ⌜ (from ≤ end) × (end ≤ maxHeight) ⌝ }
+    requires { ⌜ false ≡ member (x .0) (innermost (now names) from) ⌝ }
+    ensures { λ r. ⌜ r ≡ member (x .0) (innermost (now (names .entry)) end) ⌝ }
 {
     let mut found = false;
-    let mut d = 0;
-    while d < depth {
+    let mut d = from;
+    while d < end {
         if names[d] == x.0 {
             found = true;
         }
         d += 1;
     }
     found
+}
+
+// Whether a name is among those of the enclosing binders, which are the first of the list: the search ends behind the names in which it is found.
+fn is_bound(names: &[u16; MAX_HEIGHT], depth: usize, x: Name) -> bool
+    requires { ⌜ depth ≤ maxHeight ⌝ }
+    ensures { λ r. ⌜ r ≡ member (x .0) (innermost (now (names .entry)) depth) ⌝ }
+{
+    let mut d = 0;
+    while d < depth {
+        let end = stride_end(d, depth);
+        if is_among(names, d, end, x) {
+            return true;
+        }
+        d = end;
+    }
+    false
 }
 
 // The lower of two places.

@@ -1,45 +1,45 @@
--- `walks::structure::is_bound` meets its contract. The invariant: whether the name is among the first d is known. Assumes nothing.
+-- `walks::structure::is_bound` meets its contract. The invariant: the name is not among the first d. Assumes nothing.
 use borrow.Author.Needs.{needs}
-use Prim.Native.Nat.{_≤_, _-_}
-use mathlib.Core.Path.{_≡_, refl, sym}
-use mathlib.Core.Logic.{⊎-elim}
+use Prim.Native.Nat.{_+_, _≤_, _-_}
+use mathlib.Core.Path.{_≡_, refl, sym, subst, _∙_}
+use mathlib.Core.Bool.{true, false}
 use native.Mathlib.Omega.{arith}
-use Rattle.lambdamix.specs.Limits.{maxHeight}
 use Rattle.lambdamix.specs.Structure.{member}
 use Rattle.walks.specs.Walks.{innermost}
-use Rattle.walks.proofs.Scopes.{found-here, found-before}
+use Rattle.walks.proofs.Scopes.{found-further}
 use Rattle.walks.proofs.structure.is_bound.Statement.{statement}
 use Rattle.walks.proofs.structure.is_bound.Tie as tie
 
 abbrev Inv-loop : tie.InvT-loop
-Inv-loop names depth x found₀ d₀ found d = (d ≤ depth) × (found ≡ member (x .0) (innermost names d))
+Inv-loop names depth x d₀ d = (d ≤ depth) × (false ≡ member (x .0) (innermost names d))
 
 abbrev μ-loop : tie.MeasureT-loop
-μ-loop names depth x found₀ d₀ found d = depth - d
+μ-loop names depth x d₀ d = depth - d
 
 loop-holds : tie.Need-loop-holds Inv-loop μ-loop
 unfolding member innermost
 loop-holds c = (omega arith, refl)
 
-mul-if1 : tie.Need-mul-if1 Inv-loop μ-loop
-unfolding maxHeight
-mul-if1 c = search needs
-
-element-copy-out-if1 : tie.Need-element-copy-out-if1 Inv-loop μ-loop
-unfolding maxHeight
-element-copy-out-if1 c = search needs
-
-loop-again : tie.Need-loop-again Inv-loop μ-loop
-loop-again c =
-    let at-loop = c .before .before .before .before .loop in (
-      omega arith,
-      ⊎-elim (λ s. found-here _ _ _ (at-loop .inv .1) (s .0 .taken) (s .1)) (λ s. found-before _ _ _ (at-loop .inv .1) (s .0
-          .left) (s .1)) (c .if1 .came),
-    )
+is-among-requires : tie.Need-is-among-requires Inv-loop μ-loop
+is-among-requires c κs = search needs
 
 returns : tie.Need-returns Inv-loop μ-loop
-returns c = let e : c .before .loop .d ≡ c .before .before .args .depth = omega arith in rw (sym e) (c .before .loop .inv .1)
+returns c =
+    let a = c .before .before .before .before .before .args in
+    let end = c .before .before .stride-end .result in
+    let e : a .depth - end + end ≡ a .depth = omega (arith, c .before .before .stride-end .ensures .1) in
+    subst (λ k. true ≡ member (a .x .0) (innermost (a .names .now) k)) e
+    (found-further _ _ end (a .depth - end) (sym (c .if1 .taken) ∙ c .before .is-among .ensures))
+
+loop-again : tie.Need-loop-again Inv-loop μ-loop
+loop-again c = (c .before .before .stride-end .ensures .1, sym (c .if1 .left) ∙ c .before .is-among .ensures)
+
+returns-2 : tie.Need-returns-2 Inv-loop μ-loop
+returns-2 c =
+    let e : c .before .loop .d ≡ c .before .before .args .depth = omega (arith, c .before .loop .inv .0) in
+    rw (sym e) (c .before .loop .inv .1)
 
 pub is-bound-spec : {M : Type 1} → statement M
 is-bound-spec =
-    tie.close (tie.spec Inv-loop μ-loop loop-holds mul-if1 element-copy-out-if1 (λ c. search needs) (λ c. search needs) loop-again returns)
+    tie.close
+    (tie.spec Inv-loop μ-loop loop-holds (λ c κs. search needs) is-among-requires returns (λ c. search needs) loop-again returns-2)
