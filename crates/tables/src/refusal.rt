@@ -89,7 +89,7 @@ fn script_refusal(
         words,
     ) {
         Verdict::Refused(f) => Verdict::Refused(f),
-        Verdict::Passed => structure_refusal(words, n.inputs as usize, n.nodes as usize),
+        Verdict::Passed => structure_refusal(words, n.inputs, n.nodes as usize),
     }
 }
 
@@ -195,7 +195,7 @@ fn enough_words(nodes: u16, words: usize) -> bool
     (nodes as usize) <= words
 }
 
-// The same, and where nothing is refused the nodes in the lent words.
+// The same, and where nothing is refused the nodes in the lent words. What it answers where there are too few words says nothing.
 pub fn tables_packed(
     n: Counts,
     parameters: &[u16],
@@ -208,7 +208,7 @@ pub fn tables_packed(
     values: &[i32],
     words: &mut [u64],
 ) -> Verdict
-    ensures reply { λ r. ⌜ Tells (tablesRefusal (n .types) (n .inputs) (n .nodes) (tablesOf (now (parameters .entry)) (now (results .entry)) (now («input_types» .entry)) (now (kinds .entry)) (now (a .entry)) (now (b .entry)) (now (c .entry)) (now (values .entry)))) r ⌝ }
+    ensures reply { λ r. ⌜ (min (n .nodes) maxNodes ≤ length (now (words .entry)) → Tells (tablesRefusal (n .types) (n .inputs) (n .nodes) (tablesOf (now (parameters .entry)) (now (results .entry)) (now («input_types» .entry)) (now (kinds .entry)) (now (a .entry)) (now (b .entry)) (now (c .entry)) (now (values .entry)))) r) ⌝ }
     ensures packed { λ r. ⌜ PackedTables r (n .nodes) (tablesOf (now (parameters .entry)) (now (results .entry)) (now («input_types» .entry)) (now (kinds .entry)) (now (a .entry)) (now (b .entry)) (now (c .entry)) (now (values .entry))) (now (words .entry)) (now (words .exit)) ⌝ }
 {
     if enough_words(n.nodes, words.len()) {
@@ -225,6 +225,9 @@ pub fn tables_packed(
             words,
         )
     } else {
-        tables_refusal(n, parameters, results, input_types, kinds, a, b, c, values)
+        Verdict::Refused(Refusal {
+            number: 1,
+            place: 0,
+        })
     }
 }

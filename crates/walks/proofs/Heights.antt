@@ -1,16 +1,16 @@
 -- The walk of heights, as the code takes it: a height within the limit or the lowest node that is too high, in one number.
 -- Assumes nothing.
-use Prim.Native.Nat.{ℕ, suc, _+_, _-_, _≤_, _<_, max}
+use Prim.Native.Nat.{ℕ, zero, suc, _+_, _-_, _≤_, _<_, max}
 use mathlib.Core.Path.{_≡_, refl, sym, ap, _∙_}
 use mathlib.Core.Bool.{Bool, true, false}
-use mathlib.Core.List.{List, []}
+use mathlib.Core.List.{List, [], _∷_}
 use mathlib.Core.Option.{Option, none, some}
 use native.Mathlib.Omega.{arith}
 use native.Mathlib.Nat.{max-zero}
 use native.Mathlib.Numerals.{add-one}
 use lib.ListN.{getD}
-use lib.Dec.{leb}
-use borrow.Author.Tests.{le-leb, lt-leb, leb-true}
+use lib.Dec.{leb, ltb}
+use borrow.Author.Tests.{le-leb, lt-leb, leb-true, ltb-true, ltb-false}
 use Rattle.lambdamix.specs.Limits.{maxHeight}
 use Rattle.lambdamix.specs.Falling.{below}
 use Rattle.lambdamix.specs.Refusal.{firstBy}
@@ -50,16 +50,17 @@ gathered-kept join d self l r false m ms = sym (l _)
 
 -- ---- a node over its children, which stand in its word
 
+height-at : (x : Columns) (i : ℕ) → heightAt x i ≡ suc (heightOver x i (childrenAt x i))
+unfolding heightAt heightStep heightOver
+height-at x i = falling-step 1 (heightStep x) i
+
 module _ (ws : List ℕ) (i : ℕ) {w : ℕ} (e : w ≡ getD ws i 0) where
   pub word-children : childrenAt (columnsIn ws) i ≡ wordChildren w
   unfolding childrenAt wordChildren
   word-children = rw e
 
   pub word-height : heightAt (columnsIn ws) i ≡ suc (heightOver (columnsIn ws) i (wordChildren w))
-  unfolding heightAt heightStep heightOver
-  word-height =
-      falling-step 1 (heightStep (columnsIn ws)) i
-      ∙ ap (λ (ms : List ℕ). suc (heightOver (columnsIn ws) i ms)) word-children
+  word-height = height-at (columnsIn ws) i ∙ ap (λ (ms : List ℕ). suc (heightOver (columnsIn ws) i ms)) word-children
 
   word-too-high :
       tooHighAt (columnsIn ws) i
@@ -228,3 +229,35 @@ pub height-high : {r h : ℕ} {t : Option ℕ} → Height r h t → maxHeight < 
 unfolding maxHeight
 height-high (within-limit a) l = absurd (omega arith)
 height-high (over-limit e a c) l = ap some (omega arith)
+
+-- a height that is too high is told by a place
+pub height-above : {r h : ℕ} {t : Option ℕ} → Height r h t → maxHeight < h → maxHeight < r
+unfolding maxHeight
+height-above (within-limit a) l = absurd (omega arith)
+height-above (over-limit e a c) l = omega arith
+
+-- ---- where no height is above the limit, no node is too high
+
+low-gathered :
+    (x : Columns) (i : ℕ) (ms : List ℕ) → ((m : ℕ) → m < i → heightAt x m ≤ maxHeight → tooHighAt x m ≡ none)
+    → heightOver x i ms ≤ maxHeight → gathered lowest none (below i none (tooHighAt x)) ms ≡ none
+unfolding heightOver gathered lowest
+low-gathered x i [] f h = refl
+low-gathered x i (m ∷ ms) f h = rw (go (ltb m i) refl, low-gathered x i ms f (omega arith))
+  where
+    go : (b : Bool) → ltb m i ≡ b → below i none (tooHighAt x) m ≡ none
+    go true e =
+        let l = ltb-true m i e in
+        below-at i none (tooHighAt x) m l ∙ f m l (omega (arith, h, below-at i 1 (heightAt x) m l))
+    go false e = below-out i none (tooHighAt x) m (ltb-false m i e)
+
+low-below : (x : Columns) (n i : ℕ) → i < n → heightAt x i ≤ maxHeight → tooHighAt x i ≡ none
+unfolding tooHighAt tooHighStep firstBy lowest
+low-below x zero i l h = absurd (omega arith)
+low-below x (suc n) i l h =
+    falling-step none (tooHighStep x) i
+    ∙ rw (le-leb (heightAt x i) maxHeight h)
+    (low-gathered x i (childrenAt x i) (λ m k. low-below x n m (omega arith)) (omega (arith, h, height-at x i)))
+
+pub low-none : (x : Columns) (i : ℕ) → heightAt x i ≤ maxHeight → tooHighAt x i ≡ none
+low-none x i h = low-below x (suc i) i (omega arith) h

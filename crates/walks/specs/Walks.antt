@@ -1,6 +1,6 @@
 -- Refusals 6, 7 and 8 of the paper on columns, by recursion on falling node numbers: what the code of the structure check
 -- computes. That it is what the definitions on the tree say is shown in proofs/. Assumes nothing.
-use Prim.Native.Nat.{ℕ, zero, suc, _+_, _≤_, _<_, min, max}
+use Prim.Native.Nat.{ℕ, zero, suc, _+_, _/_, _%_, _≤_, _<_, min, max}
 use mathlib.Core.Path.{_≡_}
 use mathlib.Core.Bool.{Bool, true, false, _||_}
 use mathlib.Core.List.{List, [], _∷_}
@@ -140,14 +140,22 @@ pub record Entered (u : Use) (f d : ℕ) (before after : List ℕ) (r : ℕ) : T
   pub least : d ≤ r
   pub most : r ≤ d + 1
 
--- the lower of a place and another, each in one number: 65535 is none
+-- how many levels a search may go down below a node, and how many inputs there are, both in one number
+unfoldable pub levelsIn : ℕ → ℕ
+levelsIn l = l / 65536
+
+unfoldable pub inputCountIn : ℕ → ℕ
+inputCountIn l = l % 65536
+
+-- the lower of a place and another, each in one number: a place stands one higher, and 65535 is none
 pub data Lower : ℕ → Option ℕ → ℕ → Type 0 where
   same : {l r : ℕ} → r ≡ l → Lower l none r
-  node : {l j r : ℕ} → j < 65535 → r ≡ min l j → Lower l (some j) r
+  node : {l j r : ℕ} → j < 65534 → r ≡ min l (j + 1) → Lower l (some j) r
 
--- what a walk finds beside what was found before, and that it leaves the names around it
-pub record Scoped (place : Option ℕ) (d l : ℕ) (before after : List ℕ) (r : ℕ) : Type 0 where
-  pub found : Lower l place r
+-- what a search finds beside what was found before, where k levels are allowed for h: 0 where h is more; and that it leaves the names around it
+pub record Scoped (h k : ℕ) (place : Option ℕ) (d l : ℕ) (before after : List ℕ) (r : ℕ) : Type 0 where
+  pub found : h ≤ k → Lower l place r
+  pub high : k < h → r ≡ 0
   pub kept : Kept d before after
 
 -- The structure check's answer of nodes in words: refusals 6 to 8 of a script whose nodes they are, if every node fits.

@@ -36,13 +36,19 @@ ghost use Rattle.lambdamix.specs.Structure.{occurrences, member};
 ghost use Rattle.script.specs.Kinds.{isChild};
 ghost use Rattle.script.specs.Verdicts.{foundAt, refusalOf};
 ghost use Rattle.script.specs.Words.{wordA, wordB, wordC, columnsIn};
-ghost use Rattle.walks.specs.Walks.{keptIf, rowChildren, wordChildren, usesBelow, usedOnceAt, Counted, heightAt, tooHighAt, heightOver, Height, HeightOver, HeightJoin, HeightNode, unboundName, unboundField, unboundBy, unboundBelow, unboundAt, innermost, Entered, Lower, Scoped, Structured};
+ghost use Rattle.walks.specs.Walks.{keptIf, rowChildren, wordChildren, usesBelow, usedOnceAt, Counted, heightAt, tooHighAt, heightOver, Height, HeightOver, HeightJoin, HeightNode, unboundName, unboundField, unboundBy, unboundBelow, unboundAt, innermost, Entered, levelsIn, inputCountIn, Lower, Scoped, Structured};
 
 // The highest tree.
 const HIGHEST: u32 = MAX_HEIGHT as u32;
 
-// The place that is none.
+// The places that a search for unbound variables answers with: none, that the tree has too many levels, and any other stands one higher than it is.
 const NOWHERE: u16 = 65535;
+
+const TOO_HIGH: u16 = 0;
+
+// A level, above the number of inputs: a search is handed in one number how many levels are allowed below a node and how many inputs there are, so that
+// all that it takes travels in registers.
+const LEVEL: u32 = 65536;
 
 // How many of the names around a node are looked at together.
 const STRIDE: usize = 32;
@@ -292,21 +298,21 @@ fn lower(p: u16, q: u16) -> u16
 fn scope_name(
     names: &[u16; MAX_HEIGHT],
     depth: usize,
-    inputs: usize,
+    limits: u32,
     lowest: u16,
     i: NodeNumber,
     x: Name,
 ) -> u16
-    requires { ⌜ (depth ≤ maxHeight) × (i .0 < 65535) ⌝ }
-    ensures { λ r. ⌜ Lower lowest (unboundName inputs (innermost (now (names .entry)) depth) (x .0) (i .0)) r ⌝ }
+    requires { ⌜ (depth ≤ maxHeight) × (i .0 < 65534) ⌝ }
+    ensures { λ r. ⌜ Lower lowest (unboundName (inputCountIn limits) (innermost (now (names .entry)) depth) (x .0) (i .0)) r ⌝ }
 {
-    if (x.0 as usize) < inputs {
+    if (x.0 as u32) < limits % LEVEL {
         return lowest;
     }
     if is_bound(names, depth, x) {
         return lowest;
     }
-    lower(lowest, i.0)
+    lower(lowest, i.0 + 1)
 }
 
 // A binder's name is put after those around it. How many names are around the children.
@@ -323,34 +329,34 @@ fn put_binder(names: &mut [u16; MAX_HEIGHT], depth: usize, u: Use, f: u16) -> us
     depth
 }
 
-// The lower of a place and the lowest unbound variable of node i's tree, by the row of its kind.
+// The lower of a place and the lowest unbound variable of node i's tree, by the row of its kind, if the tree has no more levels than are allowed.
 fn scope(
     nodes: &&[u64],
-    inputs: usize,
+    limits: u32,
     names: &mut [u16; MAX_HEIGHT],
     depth: usize,
     lowest: u16,
     i: NodeNumber,
 ) -> u16
-    requires { ⌜ (i .0 < 65535) × (maxHeight ≤ length (now names)) ⌝ }
-    requires { ⌜ depth + heightAt (columnsIn (now (now nodes))) (i .0) ≤ maxHeight ⌝ }
-    ensures { λ r. ⌜ Scoped (unboundAt (columnsIn (now (now (nodes .entry)))) inputs (i .0) (innermost (now (names .entry)) depth)) depth lowest (now (names .entry)) (now (names .exit)) r ⌝ }
+    requires { ⌜ (i .0 < 65534) × (maxHeight ≤ length (now names)) ⌝ }
+    requires { ⌜ depth + 1 + levelsIn limits ≤ maxHeight ⌝ }
+    ensures { λ r. ⌜ Scoped (heightAt (columnsIn (now (now (nodes .entry)))) (i .0)) (levelsIn limits + 1) (unboundAt (columnsIn (now (now (nodes .entry)))) (inputCountIn limits) (i .0) (innermost (now (names .entry)) depth)) depth lowest (now (names .entry)) (now (names .exit)) r ⌝ }
 {
     let w = node_word(*nodes, i);
     match kind(w) {
-        0 => scope_fields(nodes, inputs, names, depth, lowest, i, w, row_of(0)),
-        1 => scope_fields(nodes, inputs, names, depth, lowest, i, w, row_of(1)),
-        2 => scope_fields(nodes, inputs, names, depth, lowest, i, w, row_of(2)),
-        3 => scope_fields(nodes, inputs, names, depth, lowest, i, w, row_of(3)),
-        4 => scope_fields(nodes, inputs, names, depth, lowest, i, w, row_of(4)),
-        5 => scope_fields(nodes, inputs, names, depth, lowest, i, w, row_of(5)),
-        6 => scope_fields(nodes, inputs, names, depth, lowest, i, w, row_of(6)),
-        7 => scope_fields(nodes, inputs, names, depth, lowest, i, w, row_of(7)),
-        8 => scope_fields(nodes, inputs, names, depth, lowest, i, w, row_of(8)),
-        9 => scope_fields(nodes, inputs, names, depth, lowest, i, w, row_of(9)),
-        10 => scope_fields(nodes, inputs, names, depth, lowest, i, w, row_of(10)),
-        11 => scope_fields(nodes, inputs, names, depth, lowest, i, w, row_of(11)),
-        12 => scope_fields(nodes, inputs, names, depth, lowest, i, w, row_of(12)),
+        0 => scope_fields(nodes, limits, names, depth, lowest, i, w, row_of(0)),
+        1 => scope_fields(nodes, limits, names, depth, lowest, i, w, row_of(1)),
+        2 => scope_fields(nodes, limits, names, depth, lowest, i, w, row_of(2)),
+        3 => scope_fields(nodes, limits, names, depth, lowest, i, w, row_of(3)),
+        4 => scope_fields(nodes, limits, names, depth, lowest, i, w, row_of(4)),
+        5 => scope_fields(nodes, limits, names, depth, lowest, i, w, row_of(5)),
+        6 => scope_fields(nodes, limits, names, depth, lowest, i, w, row_of(6)),
+        7 => scope_fields(nodes, limits, names, depth, lowest, i, w, row_of(7)),
+        8 => scope_fields(nodes, limits, names, depth, lowest, i, w, row_of(8)),
+        9 => scope_fields(nodes, limits, names, depth, lowest, i, w, row_of(9)),
+        10 => scope_fields(nodes, limits, names, depth, lowest, i, w, row_of(10)),
+        11 => scope_fields(nodes, limits, names, depth, lowest, i, w, row_of(11)),
+        12 => scope_fields(nodes, limits, names, depth, lowest, i, w, row_of(12)),
         _ => lowest,
     }
 }
@@ -358,7 +364,7 @@ fn scope(
 // The fields by a row: a binder's name is around the children after it.
 fn scope_fields(
     nodes: &&[u64],
-    inputs: usize,
+    limits: u32,
     names: &mut [u16; MAX_HEIGHT],
     depth: usize,
     lowest: u16,
@@ -366,24 +372,24 @@ fn scope_fields(
     w: u64,
     row: Row,
 ) -> u16
-    requires { ⌜ (i .0 < 65535) × (maxHeight ≤ length (now names)) ⌝ }
-    requires { ⌜ depth + 1 + heightOver (columnsIn (now (now nodes))) (i .0) (rowChildren row (wordA w) (wordB w) (wordC w)) ≤ maxHeight ⌝ }
-    ensures { λ r. ⌜ Scoped (unboundBy inputs (unboundBelow (columnsIn (now (now (nodes .entry)))) inputs (i .0)) (i .0) (innermost (now (names .entry)) depth) row (wordA w) (wordB w) (wordC w)) depth lowest (now (names .entry)) (now (names .exit)) r ⌝ }
+    requires { ⌜ (i .0 < 65534) × (maxHeight ≤ length (now names)) ⌝ }
+    requires { ⌜ depth + 1 + levelsIn limits ≤ maxHeight ⌝ }
+    ensures { λ r. ⌜ Scoped (heightOver (columnsIn (now (now (nodes .entry)))) (i .0) (rowChildren row (wordA w) (wordB w) (wordC w))) (levelsIn limits) (unboundBy (inputCountIn limits) (unboundBelow (columnsIn (now (now (nodes .entry)))) (inputCountIn limits) (i .0)) (i .0) (innermost (now (names .entry)) depth) row (wordA w) (wordB w) (wordC w)) depth lowest (now (names .entry)) (now (names .exit)) r ⌝ }
 {
     let u = row.0;
     let v = row.1;
     let t = row.2;
     let a = field_a(w);
     let inner = put_binder(names, depth, u, a);
-    let p = scope_field(nodes, inputs, names, inner, lowest, i, u, a);
-    let q = scope_field(nodes, inputs, names, inner, p, i, v, field_b(w));
-    scope_field(nodes, inputs, names, inner, q, i, t, field_c(w))
+    let p = scope_field(nodes, limits, names, inner, lowest, i, u, a);
+    let q = scope_field(nodes, limits, names, inner, p, i, v, field_b(w));
+    scope_field(nodes, limits, names, inner, q, i, t, field_c(w))
 }
 
 // A field by its use: a name is tested, a child is walked.
 fn scope_field(
     nodes: &&[u64],
-    inputs: usize,
+    limits: u32,
     names: &mut [u16; MAX_HEIGHT],
     depth: usize,
     lowest: u16,
@@ -391,13 +397,13 @@ fn scope_field(
     u: Use,
     f: u16,
 ) -> u16
-    requires { ⌜ (i .0 < 65535) × (maxHeight ≤ length (now names)) ⌝ }
-    requires { ⌜ depth + heightOver (columnsIn (now (now nodes))) (i .0) (keptIf (isChild u) f []) ≤ maxHeight ⌝ }
-    ensures { λ r. ⌜ Scoped (unboundField inputs (unboundBelow (columnsIn (now (now (nodes .entry)))) inputs (i .0)) (i .0) (innermost (now (names .entry)) depth) u f) depth lowest (now (names .entry)) (now (names .exit)) r ⌝ }
+    requires { ⌜ (i .0 < 65534) × (maxHeight ≤ length (now names)) ⌝ }
+    requires { ⌜ depth + levelsIn limits ≤ maxHeight ⌝ }
+    ensures { λ r. ⌜ Scoped (heightOver (columnsIn (now (now (nodes .entry)))) (i .0) (keptIf (isChild u) f [])) (levelsIn limits) (unboundField (inputCountIn limits) (unboundBelow (columnsIn (now (now (nodes .entry)))) (inputCountIn limits) (i .0)) (i .0) (innermost (now (names .entry)) depth) u f) depth lowest (now (names .entry)) (now (names .exit)) r ⌝ }
 {
     match u {
-        Use::Name => scope_name(names, depth, inputs, lowest, i, Name(f)),
-        Use::Child => scope_child(nodes, inputs, names, depth, lowest, i, NodeNumber(f)),
+        Use::Name => scope_name(names, depth, limits, lowest, i, Name(f)),
+        Use::Child => scope_child(nodes, limits, names, depth, lowest, i, NodeNumber(f)),
         Use::Nothing => lowest,
         Use::Binder => lowest,
         Use::ParameterType => lowest,
@@ -405,59 +411,55 @@ fn scope_field(
     }
 }
 
-// A child of node i: one whose number is below is walked.
+// A child of node i: where no level is allowed below i, the tree has too many; else a child whose number is below is walked.
 fn scope_child(
     nodes: &&[u64],
-    inputs: usize,
+    limits: u32,
     names: &mut [u16; MAX_HEIGHT],
     depth: usize,
     lowest: u16,
     i: NodeNumber,
     m: NodeNumber,
 ) -> u16
-    requires { ⌜ (i .0 < 65535) × (maxHeight ≤ length (now names)) ⌝ }
-    requires { ⌜ depth + below (i .0) 1 (heightAt (columnsIn (now (now nodes)))) (m .0) ≤ maxHeight ⌝ }
-    ensures { λ r. ⌜ Scoped (unboundBelow (columnsIn (now (now (nodes .entry)))) inputs (i .0) (m .0) (innermost (now (names .entry)) depth)) depth lowest (now (names .entry)) (now (names .exit)) r ⌝ }
+    requires { ⌜ (i .0 < 65534) × (maxHeight ≤ length (now names)) ⌝ }
+    requires { ⌜ depth + levelsIn limits ≤ maxHeight ⌝ }
+    ensures { λ r. ⌜ Scoped (below (i .0) 1 (heightAt (columnsIn (now (now (nodes .entry))))) (m .0)) (levelsIn limits) (unboundBelow (columnsIn (now (now (nodes .entry)))) (inputCountIn limits) (i .0) (m .0) (innermost (now (names .entry)) depth)) depth lowest (now (names .entry)) (now (names .exit)) r ⌝ }
 {
+    if limits < LEVEL {
+        return TOO_HIGH;
+    }
     if m.0 < i.0 {
-        return scope(nodes, inputs, names, depth, lowest, m);
+        return scope(nodes, limits - LEVEL, names, depth, lowest, m);
     }
     lowest
 }
 
-// Refusal 8, after 7.
-fn scope_refusal(nodes: &[u64], inputs: usize, root: NodeNumber) -> Verdict
-    requires { ⌜ (root .0 < 65535) × (heightAt (columnsIn (now nodes)) (root .0) ≤ maxHeight) ⌝ }
-    ensures { λ r. ⌜ refusalOf r ≡ refusedAt 8 (unboundAt (columnsIn (now (nodes .entry))) inputs (root .0) []) ⌝ }
+// Refusals 7 and 8, after 6: a search that meets too many levels is followed by the walk of heights.
+fn tree_refusal(nodes: &[u64], inputs: u16, root: NodeNumber) -> Verdict
+    requires { ⌜ root .0 < 65534 ⌝ }
+    ensures { λ r. ⌜ refusalOf r ≡ orElse (refusedAt 7 (tooHighAt (columnsIn (now (nodes .entry))) (root .0))) (refusedAt 8 (unboundAt (columnsIn (now (nodes .entry))) inputs (root .0) [])) ⌝ }
 {
     let mut names = [0u16; MAX_HEIGHT];
-    let place = scope(&nodes, inputs, &mut names, 0, NOWHERE, root);
+    let limits = LEVEL * (HIGHEST - 1) + (inputs as u32);
+    let place = scope(&nodes, limits, &mut names, 0, NOWHERE, root);
     if place == NOWHERE {
         return Verdict::Passed;
     }
-    Verdict::Refused(Refusal {
-        number: 8,
-        place: place as usize,
-    })
-}
-
-// Refusals 7 and 8, after 6.
-fn tree_refusal(nodes: &[u64], inputs: usize, root: NodeNumber) -> Verdict
-    requires { ⌜ root .0 < 65535 ⌝ }
-    ensures { λ r. ⌜ refusalOf r ≡ orElse (refusedAt 7 (tooHighAt (columnsIn (now (nodes .entry))) (root .0))) (refusedAt 8 (unboundAt (columnsIn (now (nodes .entry))) inputs (root .0) [])) ⌝ }
-{
-    let height = height(&nodes, root);
-    if height <= HIGHEST {
-        return scope_refusal(nodes, inputs, root);
+    if place == TOO_HIGH {
+        let height = height(&nodes, root);
+        return Verdict::Refused(Refusal {
+            number: 7,
+            place: (height - (HIGHEST + 1)) as usize,
+        });
     }
     Verdict::Refused(Refusal {
-        number: 7,
-        place: (height - (HIGHEST + 1)) as usize,
+        number: 8,
+        place: (place - 1) as usize,
     })
 }
 
 // Refusals 6, 7 and 8 of as many nodes, each of which fits; what it answers of other words says nothing.
-pub fn structure_refusal(nodes: &[u64], inputs: usize, count: usize) -> Verdict
+pub fn structure_refusal(nodes: &[u64], inputs: u16, count: usize) -> Verdict
     ensures { λ r. ⌜ Structured (now (nodes .entry)) inputs count r ⌝ }
 {
     if count < 1 {

@@ -10,7 +10,9 @@ use Rattle.annotation.proofs.check.check_in.Tie as tie
 returns : tie.Need-returns
 unfolding checkRefusal
 returns c =
-    let tables = tells-refusal (c .before .before .before .before .before .tables-packed .ensures .0) in
+    let enough = c .before .before .before .before .before .before .before .before .before .before
+    .before .before .before .before .before .pre in
+    let tables = tells-refusal (c .before .before .before .before .before .tables-packed .ensures .0 enough) in
     refusal-tells (refused-tells-first tables _ (c .before .f .given .1) (search needs))
 
 returns-2 : tie.Need-returns-2
@@ -19,7 +21,7 @@ returns-2 c =
     let at-tables-packed = c .before .before .before .before .before .before .tables-packed in
     let at-pre = c .before .before .before .before .before .before .before .before .before .before .before .before .before .before .before
     .before .pre in
-    let tables = tells-refusal (at-tables-packed .ensures .0) in
+    let tables = tells-refusal (at-tables-packed .ensures .0 at-pre) in
     let passed = c .before .before .enum-told .given .1 in
     let annotated = c .annotation-refusal .ensures .reply _ _ _ _ _ (passed-tells-none tables passed) (at-tables-packed .ensures .1 .nodes passed at-pre) in
     refusal-tells (passed-tells-next tables passed (tells-refusal annotated))

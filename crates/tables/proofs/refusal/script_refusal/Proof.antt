@@ -11,10 +11,9 @@ returns c =
 
 returns-2 : tie.Need-returns-2
 returns-2 c =
-    let at-content-refusal = c .before .before .before .before .before .before .before .before .content-refusal in
-    let at-enum-told = c .before .before .before .before .enum-told in
-    let at-pre = c .before .before .before .before .before .before .before .before .before .before .before .before .before .before .before
-    .before .before .before .pre in (
+    let at-content-refusal = c .before .before .before .before .before .before .before .content-refusal in
+    let at-enum-told = c .before .before .before .enum-told in
+    let at-pre = c .before .before .before .before .before .before .before .before .before .before .before .before .before .before .before .before .before .pre in (
       refused-by-structure _ _ _ _ _ _ _ _ _ _ _ (at-content-refusal .ensures .0) (at-enum-told .given .1) (at-content-refusal .ensures .1)
           (at-pre .1) _ (c .structure-refusal .ensures),
       packed-by-content _ _ _ _ _ _ _ _ _ _ _ (at-content-refusal .ensures .0) (at-enum-told
@@ -29,7 +28,6 @@ script-refusal-spec =
     tie.close
     (tie.spec
     content-refusal-requires
-    (λ c. search needs)
     (λ c. search needs)
     (λ c. search needs)
     (λ c. search needs)

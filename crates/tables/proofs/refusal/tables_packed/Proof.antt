@@ -1,10 +1,10 @@
 -- `tables::refusal::tables_packed` meets its contract: with too few words nothing is said of them. Assumes nothing.
 use borrow.Author.Needs.{needs}
-use Prim.Native.Nat.{min}
-use mathlib.Core.Path.{sym, _∙_}
+use Prim.Native.Nat.{ℕ, _≤_}
+use mathlib.Core.Path.{_≡_, sym, _∙_}
+use mathlib.Core.Bool.{Bool, false}
 use native.Mathlib.Omega.{arith}
-use lib.ListN.{length}
-use Rattle.lambdamix.specs.Limits.{maxNodes}
+use lib.Dec.{leb}
 use borrow.Author.Tests.{leb-true, leb-false}
 use Rattle.script.proofs.ReplyLaws.{refusal-tells}
 use Rattle.tables.proofs.refusal.tables_packed.Statement.{statement}
@@ -14,29 +14,17 @@ packed-refusal-requires : tie.Need-packed-refusal-requires
 packed-refusal-requires c κs = leb-true _ _ (sym (c .before .before .enough-words .ensures) ∙ c .before .if1 .taken)
 
 returns : tie.Need-returns
-returns c = (refusal-tells (c .before .before .packed-refusal .ensures .0), c .before .before .packed-refusal .ensures .1)
+returns c = (λ h. refusal-tells (c .before .before .packed-refusal .ensures .0), c .before .before .packed-refusal .ensures .1)
+
+-- there are not enough words
+few : {A : Type 0} {b : Bool} {n w : ℕ} → b ≡ leb n w → b ≡ false → n ≤ w → A
+few {n = n} {w = w} e f h = absurd (omega (arith, leb-false n w (sym e ∙ f)))
 
 returns-2 : tie.Need-returns-2
 returns-2 c =
-    let at-args = c .before .before .before .before .before .before .before .before .before .before .before .args in
-    let at-enough-words = c .before .before .enough-words in (
-      c .tables-refusal .ensures,
-      record {
-        nodes = λ e h. absurd (omega (
-          arith,
-          leb-false (min (at-args .n .nodes) maxNodes) (length
-              (at-args .words .now)) (sym (at-enough-words .ensures) ∙ c .before .if1 .left),
-        ));
-      },
-    )
+    let e = c .before .enough-words .ensures in
+    let f = c .if1 .left in
+    (λ h. few e f h, record { nodes = λ p h. few e f h })
 
 pub tables-packed-spec : {M : Type 1} → statement M
-tables-packed-spec =
-    tie.close
-    (tie.spec
-    (λ c κs. tt)
-    packed-refusal-requires
-    (λ c κs. tt)
-    (λ c. search needs)
-    returns
-    returns-2)
+tables-packed-spec = tie.close (tie.spec (λ c κs. tt) packed-refusal-requires (λ c. search needs) returns returns-2)

@@ -1,18 +1,18 @@
 -- The proof of the cycle of calls of the search for unbound variables. A child's number is below its parent's, and the measures of
--- the fields, of one field and of one child lie between the two. Each arm of the match reads the row of its own kind. Where the
--- heights are within the limit, every name has its place. Assumes nothing.
+-- the fields, of one field and of one child lie between the two. Each arm of the match reads the row of its own kind. As no more
+-- levels are allowed than there are places, every name has its place. Assumes nothing.
 use Prim.Native.Nat.{ℕ, _<_, _+_, _*_}
+use mathlib.Core.Path.{refl}
 use native.Mathlib.Omega.{arith}
 use borrow.Author.Needs.{needs}
 use borrow.Fn.Kinds.{In}
 use borrow.Fn.PlainCycle.{Measures, is, falls, and}
-use Rattle.lambdamix.proofs.Falling.{below-at}
 use Rattle.script.specs.Words.{columnsIn}
-use Rattle.walks.specs.Walks.{heightAt, unboundField}
+use Rattle.walks.specs.Walks.{unboundField, same}
 use Rattle.script.proofs.TableLaws.{Other}
-use Rattle.walks.proofs.OwnRow.{own-row, own-children, no-row}
-use Rattle.walks.proofs.Scopes.{kept-all, scoped-none, scoped-child, scoped-stray, scoped-fields, scoped-row, scoped-past, room-row, room-a, room-b}
-use Rattle.walks.proofs.Scopes.{room-c, room-child}
+use Rattle.walks.proofs.OwnRow.{own-row, own-children, no-row, no-children}
+use Rattle.walks.proofs.Scopes.{levels-less, scoped-name, child-height, no-height, scoped-child, scoped-stray, scoped-high, scoped-fields}
+use Rattle.walks.proofs.Scopes.{scoped-row, scoped-past}
 use Rattle.walks.proofs.structure.scope.Reads as scope
 use Rattle.walks.proofs.structure.scope.Kinds as scope-kinds
 use Rattle.walks.proofs.structure.+scope+scope_child+scope_field+scope_fields.Lts-scope as scope-lts
@@ -92,24 +92,19 @@ asked p q r = (p, (q, r))
 
 scope-requires : (t : ℕ) → scope-child-lts.Need-scope-requires (child-claims t) (child-at t) scope-child.Post
 scope-requires t c κs =
-    let s = c .before .before .before .before in
-    let h = c .before .if1 .taken in
+    let s = c .before .before .before .before .before in
+    let h = c .before .if2 .taken in
     asked (omega (arith, s .pre .0, h)) (omega (arith, s .pre .1 .0 .0, h), s .pre .1 .0 .1)
-    (rw (below-at _ 1 (heightAt (columnsIn (s .args .nodes .now .now))) _ h) at (s .pre .1 .1))
+    (omega (arith, s .pre .1 .1, levels-less (s .args .limits) (c .before .before .before .before .if1 .left)))
 
 child-requires : (t : ℕ) → scope-field-lts.Need-scope-child-requires (field-claims t) (field-at t) scope-field.Post
-child-requires t c κs =
-    let s = c .before .before .before in
-    asked (omega (arith, s .pre .0)) (s .pre .1 .0)
-    (room-child (columnsIn (s .args .nodes .now .now)) _ _ _ _ (c .before .enum-told2 .given .1) (s .pre .1 .1))
+child-requires t c κs = let s = c .before .before .before in asked (omega (arith, s .pre .0)) (s .pre .1 .0) (s .pre .1 .1)
 
 field-requires : (t : ℕ) → scope-fields-lts.Need-scope-field-requires (fields-claims t) (fields-at t) scope-fields.Post
 field-requires t c κs =
     let s = c .before .before .before .before in
     let e = c .before .put-binder .ensures in
-    asked (omega (arith, s .pre .0))
-    (s .pre .1 .0 .0, omega (arith, e .kept .same, s .pre .1 .0 .1))
-    (room-a (columnsIn (s .args .nodes .now .now)) _ (s .args .row) _ _ _ _ (s .pre .1 .1) (e .most) (c .before .before .before .field-a .ensures))
+    asked (omega (arith, s .pre .0)) (s .pre .1 .0 .0, omega (arith, e .kept .same, s .pre .1 .0 .1)) (omega (arith, s .pre .1 .1, e .most))
 
 field-requires-2 : (t : ℕ) → scope-fields-lts.Need-scope-field-requires-2 (fields-claims t) (fields-at t) scope-fields.Post
 field-requires-2 t c κs =
@@ -117,7 +112,7 @@ field-requires-2 t c κs =
     let e = c .before .before .before .before .put-binder .ensures in
     asked (omega (arith, s .pre .0))
     (s .pre .1 .0 .0, omega (arith, e .kept .same, c .before .before .scope-field .ensures .kept .same, s .pre .1 .0 .1))
-    (room-b (columnsIn (s .args .nodes .now .now)) _ (s .args .row) _ _ _ _ (s .pre .1 .1) (e .most) (c .field-b .ensures))
+    (omega (arith, s .pre .1 .1, e .most))
 
 field-requires-3 : (t : ℕ) → scope-fields-lts.Need-scope-field-requires-3 (fields-claims t) (fields-at t) scope-fields.Post
 field-requires-3 t c κs =
@@ -126,14 +121,22 @@ field-requires-3 t c κs =
     let p = c .before .before .before .before .before .scope-field .ensures .kept .same in
     let q = c .before .before .scope-field2 .ensures .kept .same in
     asked (omega (arith, s .pre .0))
-    (s .pre .1 .0 .0, omega (arith, e .kept .same, p, q, s .pre .1 .0 .1))
-    (room-c (columnsIn (s .args .nodes .now .now)) _ (s .args .row) _ _ _ _ (s .pre .1 .1) (e .most) (c .field-c .ensures))
+    (s .pre .1 .0 .0, omega (arith, e .kept .same, p, q, s .pre .1 .0 .1)) (omega (arith, s .pre .1 .1, e .most))
+
+child-returns : (t : ℕ) → scope-child-lts.Need-returns-2 (child-claims t) (child-at t) scope-child.Post
+child-returns t c =
+    let s = c .before .before .before .before .before .before in
+    scoped-child (s .args .nodes .now .now) _ _ _ _ (c .before .before .if2 .taken) (c .before .before .before .before .before .if1 .left) (c .scope .ensures)
+
+stray-returns : (t : ℕ) → scope-child-lts.Need-returns-3 (child-claims t) (child-at t) scope-child.Post
+stray-returns t c = scoped-stray (c .before .before .before .before .args .nodes .now .now) _ _ _ _ _ _ (c .if2 .left) (c .before .before .before .if1 .left)
 
 fields-returns : (t : ℕ) → scope-fields-lts.Need-returns (fields-claims t) (fields-at t) scope-fields.Post
 fields-returns t c =
     let p = c .before .before .before .before .before .before in
-    rw (← p .before .before .before .before .field-a .ensures, ← c .before .before .before .before .field-b .ensures, ← c .before .field-c .ensures)
-    (scoped-fields _ _ _ _ _ _ _ (p .before .before .put-binder .ensures) (p .scope-field .ensures)
+    let q = p .before .before in
+    rw (← q .before .before .field-a .ensures, ← c .before .before .before .before .field-b .ensures, ← c .before .field-c .ensures)
+    (scoped-fields (columnsIn (q .before .before .before .args .nodes .now .now)) _ _ _ _ _ _ _ _ (q .put-binder .ensures) (p .scope-field .ensures)
     (c .before .before .before .scope-field2 .ensures) (omega arith) (c .scope-field3 .ensures) (omega arith))
 
 pub +scope+scope-child+scope-field+scope-fields-spec : {M : Type 1} → statement M
@@ -144,89 +147,77 @@ unfolding Other unboundField
     (λ c κs. tt)
     (λ c κs. tt)
     (λ c κs. tt)
-    (λ c κs. let s = c .before .before .before .before .before .before in asked (omega (arith, s .pre .0)) (s .pre .1 .0)
-    (room-row (s .args .nodes .now .now) _ _ _ (c .before .before .before .before .node-word .ensures)
-    (own-children _ (c .before .before .before .kind .ensures) (c .row-of .ensures) (omega arith)) (s .pre .1 .1)))
+    (λ c κs. let s = c .before .before .before .before .before .before in asked (omega (arith, s .pre .0)) (s .pre .1 .0) (s .pre .1 .1))
     (λ c κs. tt)
-    (λ c κs. let s = c .before .before .before .before .before .before in asked (omega (arith, s .pre .0)) (s .pre .1 .0)
-    (room-row (s .args .nodes .now .now) _ _ _ (c .before .before .before .before .node-word .ensures)
-    (own-children _ (c .before .before .before .kind .ensures) (c .row-of2 .ensures) (omega arith)) (s .pre .1 .1)))
+    (λ c κs. let s = c .before .before .before .before .before .before in asked (omega (arith, s .pre .0)) (s .pre .1 .0) (s .pre .1 .1))
     (λ c κs. tt)
-    (λ c κs. let s = c .before .before .before .before .before .before in asked (omega (arith, s .pre .0)) (s .pre .1 .0)
-    (room-row (s .args .nodes .now .now) _ _ _ (c .before .before .before .before .node-word .ensures)
-    (own-children _ (c .before .before .before .kind .ensures) (c .row-of3 .ensures) (omega arith)) (s .pre .1 .1)))
+    (λ c κs. let s = c .before .before .before .before .before .before in asked (omega (arith, s .pre .0)) (s .pre .1 .0) (s .pre .1 .1))
     (λ c κs. tt)
-    (λ c κs. let s = c .before .before .before .before .before .before in asked (omega (arith, s .pre .0)) (s .pre .1 .0)
-    (room-row (s .args .nodes .now .now) _ _ _ (c .before .before .before .before .node-word .ensures)
-    (own-children _ (c .before .before .before .kind .ensures) (c .row-of4 .ensures) (omega arith)) (s .pre .1 .1)))
+    (λ c κs. let s = c .before .before .before .before .before .before in asked (omega (arith, s .pre .0)) (s .pre .1 .0) (s .pre .1 .1))
     (λ c κs. tt)
-    (λ c κs. let s = c .before .before .before .before .before .before in asked (omega (arith, s .pre .0)) (s .pre .1 .0)
-    (room-row (s .args .nodes .now .now) _ _ _ (c .before .before .before .before .node-word .ensures)
-    (own-children _ (c .before .before .before .kind .ensures) (c .row-of5 .ensures) (omega arith)) (s .pre .1 .1)))
+    (λ c κs. let s = c .before .before .before .before .before .before in asked (omega (arith, s .pre .0)) (s .pre .1 .0) (s .pre .1 .1))
     (λ c κs. tt)
-    (λ c κs. let s = c .before .before .before .before .before .before in asked (omega (arith, s .pre .0)) (s .pre .1 .0)
-    (room-row (s .args .nodes .now .now) _ _ _ (c .before .before .before .before .node-word .ensures)
-    (own-children _ (c .before .before .before .kind .ensures) (c .row-of6 .ensures) (omega arith)) (s .pre .1 .1)))
+    (λ c κs. let s = c .before .before .before .before .before .before in asked (omega (arith, s .pre .0)) (s .pre .1 .0) (s .pre .1 .1))
     (λ c κs. tt)
-    (λ c κs. let s = c .before .before .before .before .before .before in asked (omega (arith, s .pre .0)) (s .pre .1 .0)
-    (room-row (s .args .nodes .now .now) _ _ _ (c .before .before .before .before .node-word .ensures)
-    (own-children _ (c .before .before .before .kind .ensures) (c .row-of7 .ensures) (omega arith)) (s .pre .1 .1)))
+    (λ c κs. let s = c .before .before .before .before .before .before in asked (omega (arith, s .pre .0)) (s .pre .1 .0) (s .pre .1 .1))
     (λ c κs. tt)
-    (λ c κs. let s = c .before .before .before .before .before .before in asked (omega (arith, s .pre .0)) (s .pre .1 .0)
-    (room-row (s .args .nodes .now .now) _ _ _ (c .before .before .before .before .node-word .ensures)
-    (own-children _ (c .before .before .before .kind .ensures) (c .row-of8 .ensures) (omega arith)) (s .pre .1 .1)))
+    (λ c κs. let s = c .before .before .before .before .before .before in asked (omega (arith, s .pre .0)) (s .pre .1 .0) (s .pre .1 .1))
     (λ c κs. tt)
-    (λ c κs. let s = c .before .before .before .before .before .before in asked (omega (arith, s .pre .0)) (s .pre .1 .0)
-    (room-row (s .args .nodes .now .now) _ _ _ (c .before .before .before .before .node-word .ensures)
-    (own-children _ (c .before .before .before .kind .ensures) (c .row-of9 .ensures) (omega arith)) (s .pre .1 .1)))
+    (λ c κs. let s = c .before .before .before .before .before .before in asked (omega (arith, s .pre .0)) (s .pre .1 .0) (s .pre .1 .1))
     (λ c κs. tt)
-    (λ c κs. let s = c .before .before .before .before .before .before in asked (omega (arith, s .pre .0)) (s .pre .1 .0)
-    (room-row (s .args .nodes .now .now) _ _ _ (c .before .before .before .before .node-word .ensures)
-    (own-children _ (c .before .before .before .kind .ensures) (c .row-of10 .ensures) (omega arith)) (s .pre .1 .1)))
+    (λ c κs. let s = c .before .before .before .before .before .before in asked (omega (arith, s .pre .0)) (s .pre .1 .0) (s .pre .1 .1))
     (λ c κs. tt)
-    (λ c κs. let s = c .before .before .before .before .before .before in asked (omega (arith, s .pre .0)) (s .pre .1 .0)
-    (room-row (s .args .nodes .now .now) _ _ _ (c .before .before .before .before .node-word .ensures)
-    (own-children _ (c .before .before .before .kind .ensures) (c .row-of11 .ensures) (omega arith)) (s .pre .1 .1)))
+    (λ c κs. let s = c .before .before .before .before .before .before in asked (omega (arith, s .pre .0)) (s .pre .1 .0) (s .pre .1 .1))
     (λ c κs. tt)
-    (λ c κs. let s = c .before .before .before .before .before .before in asked (omega (arith, s .pre .0)) (s .pre .1 .0)
-    (room-row (s .args .nodes .now .now) _ _ _ (c .before .before .before .before .node-word .ensures)
-    (own-children _ (c .before .before .before .kind .ensures) (c .row-of12 .ensures) (omega arith)) (s .pre .1 .1)))
+    (λ c κs. let s = c .before .before .before .before .before .before in asked (omega (arith, s .pre .0)) (s .pre .1 .0) (s .pre .1 .1))
     (λ c κs. tt)
-    (λ c κs. let s = c .before .before .before .before .before .before in asked (omega (arith, s .pre .0)) (s .pre .1 .0)
-    (room-row (s .args .nodes .now .now) _ _ _ (c .before .before .before .before .node-word .ensures)
-    (own-children _ (c .before .before .before .kind .ensures) (c .row-of13 .ensures) (omega arith)) (s .pre .1 .1)))
-    (λ c. let k = c .before .before .before .before in scoped-row (k .before .before .before .args .nodes .now .now) _ _ (k .before .node-word .ensures)
-    (own-row _ (k .kind .ensures) (c .before .row-of .ensures) (omega arith)) (c .scope-fields .ensures))
-    (λ c. let k = c .before .before .before .before in scoped-row (k .before .before .before .args .nodes .now .now) _ _ (k .before .node-word .ensures)
-    (own-row _ (k .kind .ensures) (c .before .row-of2 .ensures) (omega arith)) (c .scope-fields2 .ensures))
-    (λ c. let k = c .before .before .before .before in scoped-row (k .before .before .before .args .nodes .now .now) _ _ (k .before .node-word .ensures)
-    (own-row _ (k .kind .ensures) (c .before .row-of3 .ensures) (omega arith)) (c .scope-fields3 .ensures))
-    (λ c. let k = c .before .before .before .before in scoped-row (k .before .before .before .args .nodes .now .now) _ _ (k .before .node-word .ensures)
-    (own-row _ (k .kind .ensures) (c .before .row-of4 .ensures) (omega arith)) (c .scope-fields4 .ensures))
-    (λ c. let k = c .before .before .before .before in scoped-row (k .before .before .before .args .nodes .now .now) _ _ (k .before .node-word .ensures)
-    (own-row _ (k .kind .ensures) (c .before .row-of5 .ensures) (omega arith)) (c .scope-fields5 .ensures))
-    (λ c. let k = c .before .before .before .before in scoped-row (k .before .before .before .args .nodes .now .now) _ _ (k .before .node-word .ensures)
-    (own-row _ (k .kind .ensures) (c .before .row-of6 .ensures) (omega arith)) (c .scope-fields6 .ensures))
-    (λ c. let k = c .before .before .before .before in scoped-row (k .before .before .before .args .nodes .now .now) _ _ (k .before .node-word .ensures)
-    (own-row _ (k .kind .ensures) (c .before .row-of7 .ensures) (omega arith)) (c .scope-fields7 .ensures))
-    (λ c. let k = c .before .before .before .before in scoped-row (k .before .before .before .args .nodes .now .now) _ _ (k .before .node-word .ensures)
-    (own-row _ (k .kind .ensures) (c .before .row-of8 .ensures) (omega arith)) (c .scope-fields8 .ensures))
-    (λ c. let k = c .before .before .before .before in scoped-row (k .before .before .before .args .nodes .now .now) _ _ (k .before .node-word .ensures)
-    (own-row _ (k .kind .ensures) (c .before .row-of9 .ensures) (omega arith)) (c .scope-fields9 .ensures))
-    (λ c. let k = c .before .before .before .before in scoped-row (k .before .before .before .args .nodes .now .now) _ _ (k .before .node-word .ensures)
-    (own-row _ (k .kind .ensures) (c .before .row-of10 .ensures) (omega arith)) (c .scope-fields10 .ensures))
-    (λ c. let k = c .before .before .before .before in scoped-row (k .before .before .before .args .nodes .now .now) _ _ (k .before .node-word .ensures)
-    (own-row _ (k .kind .ensures) (c .before .row-of11 .ensures) (omega arith)) (c .scope-fields11 .ensures))
-    (λ c. let k = c .before .before .before .before in scoped-row (k .before .before .before .args .nodes .now .now) _ _ (k .before .node-word .ensures)
-    (own-row _ (k .kind .ensures) (c .before .row-of12 .ensures) (omega arith)) (c .scope-fields12 .ensures))
-    (λ c. let k = c .before .before .before .before in scoped-row (k .before .before .before .args .nodes .now .now) _ _ (k .before .node-word .ensures)
-    (own-row _ (k .kind .ensures) (c .before .row-of13 .ensures) (omega arith)) (c .scope-fields13 .ensures))
-    (λ c. scoped-past (c .before .before .before .before .args .nodes .now .now) _ _ (c .before .before .node-word .ensures) _
-    (no-row _ (c .before .kind .ensures) (c .match .rest))))
+    (λ c κs. let s = c .before .before .before .before .before .before in asked (omega (arith, s .pre .0)) (s .pre .1 .0) (s .pre .1 .1))
+    (λ c. let k = c .before .before .before .before in scoped-row (k .before .before .before .args .nodes .now .now) _ _ (k .before .node-word .ensures) _
+    (own-row _ (k .kind .ensures) (c .before .row-of .ensures) (omega arith)) (own-children _ (k .kind .ensures) (c .before .row-of .ensures) (omega arith))
+    (c .scope-fields .ensures))
+    (λ c. let k = c .before .before .before .before in scoped-row (k .before .before .before .args .nodes .now .now) _ _ (k .before .node-word .ensures) _
+    (own-row _ (k .kind .ensures) (c .before .row-of2 .ensures) (omega arith)) (own-children _ (k .kind .ensures) (c .before .row-of2 .ensures) (omega arith))
+    (c .scope-fields2 .ensures))
+    (λ c. let k = c .before .before .before .before in scoped-row (k .before .before .before .args .nodes .now .now) _ _ (k .before .node-word .ensures) _
+    (own-row _ (k .kind .ensures) (c .before .row-of3 .ensures) (omega arith)) (own-children _ (k .kind .ensures) (c .before .row-of3 .ensures) (omega arith))
+    (c .scope-fields3 .ensures))
+    (λ c. let k = c .before .before .before .before in scoped-row (k .before .before .before .args .nodes .now .now) _ _ (k .before .node-word .ensures) _
+    (own-row _ (k .kind .ensures) (c .before .row-of4 .ensures) (omega arith)) (own-children _ (k .kind .ensures) (c .before .row-of4 .ensures) (omega arith))
+    (c .scope-fields4 .ensures))
+    (λ c. let k = c .before .before .before .before in scoped-row (k .before .before .before .args .nodes .now .now) _ _ (k .before .node-word .ensures) _
+    (own-row _ (k .kind .ensures) (c .before .row-of5 .ensures) (omega arith)) (own-children _ (k .kind .ensures) (c .before .row-of5 .ensures) (omega arith))
+    (c .scope-fields5 .ensures))
+    (λ c. let k = c .before .before .before .before in scoped-row (k .before .before .before .args .nodes .now .now) _ _ (k .before .node-word .ensures) _
+    (own-row _ (k .kind .ensures) (c .before .row-of6 .ensures) (omega arith)) (own-children _ (k .kind .ensures) (c .before .row-of6 .ensures) (omega arith))
+    (c .scope-fields6 .ensures))
+    (λ c. let k = c .before .before .before .before in scoped-row (k .before .before .before .args .nodes .now .now) _ _ (k .before .node-word .ensures) _
+    (own-row _ (k .kind .ensures) (c .before .row-of7 .ensures) (omega arith)) (own-children _ (k .kind .ensures) (c .before .row-of7 .ensures) (omega arith))
+    (c .scope-fields7 .ensures))
+    (λ c. let k = c .before .before .before .before in scoped-row (k .before .before .before .args .nodes .now .now) _ _ (k .before .node-word .ensures) _
+    (own-row _ (k .kind .ensures) (c .before .row-of8 .ensures) (omega arith)) (own-children _ (k .kind .ensures) (c .before .row-of8 .ensures) (omega arith))
+    (c .scope-fields8 .ensures))
+    (λ c. let k = c .before .before .before .before in scoped-row (k .before .before .before .args .nodes .now .now) _ _ (k .before .node-word .ensures) _
+    (own-row _ (k .kind .ensures) (c .before .row-of9 .ensures) (omega arith)) (own-children _ (k .kind .ensures) (c .before .row-of9 .ensures) (omega arith))
+    (c .scope-fields9 .ensures))
+    (λ c. let k = c .before .before .before .before in scoped-row (k .before .before .before .args .nodes .now .now) _ _ (k .before .node-word .ensures) _
+    (own-row _ (k .kind .ensures) (c .before .row-of10 .ensures) (omega arith)) (own-children _ (k .kind .ensures) (c .before .row-of10 .ensures) (omega arith))
+    (c .scope-fields10 .ensures))
+    (λ c. let k = c .before .before .before .before in scoped-row (k .before .before .before .args .nodes .now .now) _ _ (k .before .node-word .ensures) _
+    (own-row _ (k .kind .ensures) (c .before .row-of11 .ensures) (omega arith)) (own-children _ (k .kind .ensures) (c .before .row-of11 .ensures) (omega arith))
+    (c .scope-fields11 .ensures))
+    (λ c. let k = c .before .before .before .before in scoped-row (k .before .before .before .args .nodes .now .now) _ _ (k .before .node-word .ensures) _
+    (own-row _ (k .kind .ensures) (c .before .row-of12 .ensures) (omega arith)) (own-children _ (k .kind .ensures) (c .before .row-of12 .ensures) (omega arith))
+    (c .scope-fields12 .ensures))
+    (λ c. let k = c .before .before .before .before in scoped-row (k .before .before .before .args .nodes .now .now) _ _ (k .before .node-word .ensures) _
+    (own-row _ (k .kind .ensures) (c .before .row-of13 .ensures) (omega arith)) (own-children _ (k .kind .ensures) (c .before .row-of13 .ensures) (omega arith))
+    (c .scope-fields13 .ensures))
+    (λ c. scoped-past (c .before .before .before .before .args .nodes .now .now) _ _ (c .before .before .node-word .ensures) _ _
+    (no-row _ (c .before .kind .ensures) (c .match .rest)) (no-children _ (c .before .kind .ensures) (c .match .rest))))
     (λ t. scope-child-lts.spec (child-claims t) (child-at t) scope-child.Post
+    (λ c. scoped-high (c .before .args .nodes .now .now) _ _ _ _ _ (c .if1 .taken))
     (scope-requires t)
-    (λ c. scoped-child (columnsIn (c .before .before .before .before .before .args .nodes .now .now)) _ _ _ (c .before .before .if1 .taken) (c .scope .ensures))
-    (λ c. scoped-stray (columnsIn (c .before .before .before .args .nodes .now .now)) _ _ _ _ (c .if1 .left)))
+    (child-returns t)
+    (stray-returns t))
     (λ t. scope-field-lts.spec (field-claims t) (field-at t) scope-field.Post
     (λ c. search needs)
     (λ c κs. let s = c .before .before .before in (omega (arith, s .pre .1 .1), s .pre .1 .0 .0))
@@ -236,12 +227,12 @@ unfolding Other unboundField
     (λ c. search needs)
     (λ c. search needs)
     (λ c. search needs)
-    (λ c. rw (c .before .before .enum-told .given .1) (record { found = c .scope-name .ensures; kept = kept-all _ _ }))
-    (λ c. rw (c .before .before .enum-told2 .given .1) (c .scope-child .ensures))
-    (λ c. rw (c .enum-told3 .given .1) (scoped-none _))
-    (λ c. rw (c .enum-told4 .given .1) (scoped-none _))
-    (λ c. rw (c .enum-told5 .given .1) (scoped-none _))
-    (λ c. rw (c .enum-told6 .given .1) (scoped-none _)))
+    (λ c. rw (c .before .before .enum-told .given .1) (scoped-name _ (no-height _ _ _ refl) (c .scope-name .ensures)))
+    (λ c. rw (c .before .before .enum-told2 .given .1, child-height _ _ _ refl) (c .scope-child .ensures))
+    (λ c. rw (c .enum-told3 .given .1) (scoped-name _ (no-height _ _ _ refl) (same refl)))
+    (λ c. rw (c .enum-told4 .given .1) (scoped-name _ (no-height _ _ _ refl) (same refl)))
+    (λ c. rw (c .enum-told5 .given .1) (scoped-name _ (no-height _ _ _ refl) (same refl)))
+    (λ c. rw (c .enum-told6 .given .1) (scoped-name _ (no-height _ _ _ refl) (same refl))))
     λ t. scope-fields-lts.spec (fields-claims t) (fields-at t) scope-fields.Post
     (λ c κs. tt)
     (λ c κs. let s = c .before .before in (omega (arith, s .pre .1 .1), s .pre .1 .0 .1))

@@ -1,23 +1,61 @@
--- `walks::structure::tree_refusal` meets its contract: after the walk of heights no name stands too deep. Assumes nothing.
+-- `walks::structure::tree_refusal` meets its contract: a search within the levels that are allowed finds the lowest unbound variable of a tree that is not
+-- too high, and tells one that is. Assumes nothing.
 use borrow.Author.Needs.{needs}
+use Prim.Native.Nat.{ℕ}
+use mathlib.Core.Path.{refl, sym}
+use native.Mathlib.Omega.{arith}
+use lib.ListN.{length-replicate}
 use Rattle.lambdamix.specs.Limits.{maxHeight}
 use Rattle.lambdamix.specs.Refusal.{refusedAt, orElse}
 use Rattle.script.specs.Verdicts.{refusalOf}
-use Rattle.walks.proofs.Heights.{height-low, height-high}
+use Rattle.walks.specs.Walks.{innermost, levelsIn}
+use Rattle.walks.proofs.Heights.{height-above, height-high}
+use Rattle.walks.proofs.Scopes.{root-none, root-high, root-some}
 use Rattle.walks.proofs.structure.tree_refusal.Statement.{statement}
 use Rattle.walks.proofs.structure.tree_refusal.Tie as tie
 
-scope-refusal-requires : tie.Need-scope-refusal-requires
-unfolding maxHeight
-scope-refusal-requires c κs = (c .before .before .before .before .pre, height-low (c .before .height .ensures) (c .if1 .taken) .0)
+scope-requires : tie.Need-scope-requires
+unfolding maxHeight levelsIn
+scope-requires c κs = ((c .before .before .before .pre, omega (arith, length-replicate {A = ℕ} maxHeight 0)), omega arith)
 
 returns : tie.Need-returns
-unfolding refusedAt orElse maxHeight
-returns c = rw (height-low (c .before .before .height .ensures) (c .before .if1 .taken) .1) (c .scope-refusal .ensures)
+unfolding innermost refusalOf refusedAt orElse maxHeight
+returns c =
+    let q = root-none (c .before .before .before .before .before .args .t1 .now) _ _ refl (omega arith) (c .before .scope .ensures) (c .if1 .taken) in
+    rw (q .0, q .1)
+
+sub-place : tie.Need-sub-t17
+unfolding innermost maxHeight
+sub-place c =
+    let h = root-high (c .before .before .before .before .before .before .before .before .args .t1 .now) _ _ refl (omega arith) (c .before .before .before .before .scope .ensures) (c .before .before .if2 .taken) in
+    omega (arith, height-above (c .height .ensures) h)
 
 returns-2 : tie.Need-returns-2
-unfolding refusalOf refusedAt orElse maxHeight
-returns-2 c = rw (height-high (c .before .height .ensures) (c .if1 .left))
+unfolding innermost refusalOf refusedAt orElse maxHeight
+returns-2 c =
+    let h = root-high (c .before .before .before .before .before .before .before .before .args .t1 .now) _ _ refl (omega arith) (c .before .before .before .before .scope .ensures) (c .before .before .if2 .taken) in
+    rw (height-high (c .height .ensures) (height-above (c .height .ensures) h))
+
+returns-3 : tie.Need-returns-3
+unfolding innermost refusalOf refusedAt orElse maxHeight
+returns-3 c =
+    let q = root-some (c .before .before .before .before .before .before .args .t1 .now) _ _ refl (omega arith) (c .before .before .scope .ensures) (c .before .if1 .left) (c .if2 .left) in
+    rw (q .0, q .1)
 
 pub tree-refusal-spec : {M : Type 1} → statement M
-tree-refusal-spec = tie.close (tie.spec (λ c κs. tt) scope-refusal-requires returns (λ c. search needs) (λ c. search needs) (λ c. search needs) returns-2)
+tree-refusal-spec =
+    tie.close
+    (tie.spec
+    (λ c. search needs)
+    (λ c. search needs)
+    (λ c. search needs)
+    scope-requires
+    returns
+    (λ c κs. tt)
+    (λ c. search needs)
+    sub-place
+    (λ c. search needs)
+    returns-2
+    (λ c. search needs)
+    (λ c. search needs)
+    returns-3)
