@@ -1,8 +1,8 @@
--- `benchrun::drain` meets its contract: the loop ends. Assumes nothing.
+-- `standard::input::drain` meets its contract: the loop ends. Assumes nothing.
 use Prim.Native.Nat.{_≤_}
 use native.Mathlib.Omega.{arith}
-use Rattle.benchrun.proofs.drain.Statement.{statement}
-use Rattle.benchrun.proofs.drain.Tie as tie
+use Rattle.standard.proofs.input.drain.Statement.{statement}
+use Rattle.standard.proofs.input.drain.Tie as tie
 
 abbrev Inv-loop : tie.InvT-loop
 Inv-loop turns₀ turns = turns ≤ 1000000000
