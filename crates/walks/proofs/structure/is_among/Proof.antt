@@ -1,7 +1,7 @@
 -- `walks::structure::is_among` meets its contract. The invariant: whether the name is among the first d is known. Assumes nothing.
 use borrow.Author.Needs.{needs}
 use Prim.Native.Nat.{_≤_, _-_}
-use mathlib.Core.Path.{_≡_, refl, sym}
+use mathlib.Core.Path.{_≡_, sym}
 use mathlib.Core.Logic.{⊎-elim}
 use native.Mathlib.Omega.{arith}
 use Rattle.lambdamix.specs.Limits.{maxHeight}
