@@ -25,7 +25,7 @@ pub fn read_input(space: &mut [u8]) -> usize
     ensures { λ r. ⌜ Counts r (now (space .exit)) ⌝ }
 {
     let n = io::read_full(STDIN_FILENO, space);
-    if n == MAX_BYTES {
+    if n == space.len() {
         drain();
     }
     n

@@ -1,7 +1,7 @@
 // Standard output.
 use libc::STDOUT_FILENO;
 
-// Writes the first n bytes.
+// Writes the first n bytes, and nothing where there are fewer.
 pub fn print(out: &[u8], n: usize) {
     let first = 0;
     if n <= out.len() {

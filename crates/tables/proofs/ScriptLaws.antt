@@ -1,6 +1,6 @@
 -- The script that tables hold has the tables' rows, so the contents of either are refused alike; and where nothing of the contents
 -- is refused, every node is right; which tables are too short. Assumes nothing.
-use Prim.Native.Nat.{ℕ, min, _<_, _≤_}
+use Prim.Native.Nat.{ℕ, _<_, _≤_}
 use mathlib.Core.Path.{_≡_, refl, sym, ap₂, _∙_}
 use mathlib.Core.Bool.{Bool, true, false, not, _&&_}
 use mathlib.Core.List.{List}
@@ -12,7 +12,6 @@ use borrow.Author.Tests.{leb-true, le-leb, lt-leb}
 use native.Mathlib.Omega.{arith}
 use Rattle.lambdamix.specs.Script.{FunctionType, Node, blankNode, nodeAt}
 use Rattle.lambdamix.specs.Types.{blankType}
-use Rattle.lambdamix.specs.Limits.{maxNodes}
 use Rattle.lambdamix.specs.Refusal.{orElse, refusedUnless, Refusal}
 use Rattle.lambdamix.specs.Structure.{structureRefusal}
 use Rattle.lambdamix.proofs.Tests.{and-both}
@@ -120,26 +119,26 @@ module _ (t i n : ℕ) (ps rs is ks xs ys zs : List ℕ) (vs : List ℤ) where
   unfolding refusalOf orElse
   refused-by-content {v} {f} p q = rw (script-of-tables t i n columns, ← p, q)
 
-  module _ {v : Verdict} (p : refusalOf v ≡ contentIn t i n columns) (q : v ≡ Verdict.Passed) {before ws : List ℕ}
-      (k : PackedTables v n columns before ws) (h : min n maxNodes ≤ length before) where
+  module _ {v : Verdict} (p : refusalOf v ≡ contentIn t i n columns) (q : v ≡ Verdict.Passed) {ws : List ℕ}
+      (k : PackedTables v n columns ws) where
     pub refused-by-structure : (r : Verdict) → Structured ws i n r → refusalOf r ≡ scriptRefusal (tablesScript t i n columns)
     unfolding refusalOf orElse
-    refused-by-structure r m = rw (script-of-tables t i n columns, ← p, q) (structure-after (passed-tells-none p q) r (k .nodes q h) m)
+    refused-by-structure r m = rw (script-of-tables t i n columns, ← p, q) (structure-after (passed-tells-none p q) r (k .nodes q) m)
 
-    pub packed-by-content : (r : Verdict) → PackedTables r n columns before ws
-    packed-by-content r = record { nodes = λ e l. k .nodes q h }
+    pub packed-by-content : (r : Verdict) → PackedTables r n columns ws
+    packed-by-content r = record { nodes = λ e. k .nodes q }
 
 -- a verdict that refuses says nothing of the words
-pub not-packed : {f : Refused.Refusal} {n : ℕ} {x : Tables} {before after : List ℕ} → PackedTables (Verdict.Refused f) n x before after
-not-packed = record { nodes = λ e h. let z : _≡_ {A = ℕ} 0 1 = cc in absurd (omega arith) }
+pub not-packed : {f : Refused.Refusal} {n : ℕ} {x : Tables} {after : List ℕ} → PackedTables (Verdict.Refused f) n x after
+not-packed = record { nodes = λ e. let z : _≡_ {A = ℕ} 0 1 = cc in absurd (omega arith) }
 
 -- contents are packed where their search for a bad node found none
 pub packed-by-search :
-    (t i : ℕ) (p q : Option ℕ) (r : Found) {v : Verdict} {n : ℕ} {x : Tables} {before after : List ℕ}
+    (t i : ℕ) (p q : Option ℕ) (r : Found) {v : Verdict} {n : ℕ} {x : Tables} {after : List ℕ}
     → refusalOf v ≡ orElse (refusedRecord 4 typeOffset p) (orElse (refusedRecord 4 (inputOffset t) q) (refusedRecord 5 (nodeOffset t i) (foundAt r)))
-    → PackedNodes r n (rowNode x) after → PackedTables v n x before after
+    → PackedNodes r n (rowNode x) after → PackedTables v n x after
 packed-by-search t i p q r e k =
-    record { nodes = λ h l. k .all (no-record 5 (nodeOffset t i) (foundAt r) (neither _ _ (neither _ _ (passed-tells-none e h) .1) .1)) }
+    record { nodes = λ h. k .all (no-record 5 (nodeOffset t i) (foundAt r) (neither _ _ (neither _ _ (passed-tells-none e h) .1) .1)) }
 
 -- columns that are long enough hold the nodes
 pub long-holds : (t i n ps rs is : ℕ) {ks xs ys zs : List ℕ} {vs : List ℤ} {b : Bool}

@@ -1,11 +1,10 @@
 -- What a check of tables leaves in lent words: the nodes, if nothing is refused. Assumes nothing.
-use Prim.Native.Nat.{ℕ, min, _≤_}
+use Prim.Native.Nat.{ℕ, _≤_}
 use mathlib.Core.Path.{_≡_}
 use mathlib.Core.List.{List}
 use mathlib.Core.Option.{none}
 use lib.IntN.{ℤ}
 use lib.ListN.{length}
-use Rattle.lambdamix.specs.Limits.{maxNodes}
 use Rattle.lambdamix.specs.Script.{Node}
 use Rattle.script.specs.declared.Found.{Found}
 use Rattle.script.specs.declared.Verdict.{Verdict}
@@ -26,6 +25,6 @@ pub record HoldNodes (n : ℕ) (ks xs ys zs : List ℕ) (vs : List ℤ) : Type 0
 pub record PackedNodes (r : Found) (n : ℕ) (nodes : ℕ → Node) (after : List ℕ) : Type 0 where
   pub all : foundAt r ≡ none → Packed n nodes after
 
--- there are words for the nodes, or for as many as a script may have, and no verdict but one that passes says anything
-pub record PackedTables (r : Verdict) (n : ℕ) (x : Tables) (before after : List ℕ) : Type 0 where
-  pub nodes : r ≡ Verdict.Passed → min n maxNodes ≤ length before → Packed n (rowNode x) after
+-- a verdict that passes has packed the nodes; no other says anything of the words
+pub record PackedTables (r : Verdict) (n : ℕ) (x : Tables) (after : List ℕ) : Type 0 where
+  pub nodes : r ≡ Verdict.Passed → Packed n (rowNode x) after

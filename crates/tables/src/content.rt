@@ -291,7 +291,7 @@ pub(crate) fn content_refusal(
     requires { ⌜ HoldNodes (n .nodes) (now kinds) (now a) (now b) (now c) (now values) ⌝ }
     requires { ⌜ min (n .nodes) maxNodes ≤ length (now words) ⌝ }
     ensures reply { λ r. ⌜ refusalOf r ≡ contentIn (n .types) (n .inputs) (n .nodes) (tablesOf (now (parameters .entry)) (now (results .entry)) (now («input_types» .entry)) (now (kinds .entry)) (now (a .entry)) (now (b .entry)) (now (c .entry)) (now (values .entry))) ⌝ }
-    ensures packed { λ r. ⌜ PackedTables r (n .nodes) (tablesOf (now (parameters .entry)) (now (results .entry)) (now («input_types» .entry)) (now (kinds .entry)) (now (a .entry)) (now (b .entry)) (now (c .entry)) (now (values .entry))) (now (words .entry)) (now (words .exit)) ⌝ }
+    ensures packed { λ r. ⌜ PackedTables r (n .nodes) (tablesOf (now (parameters .entry)) (now (results .entry)) (now («input_types» .entry)) (now (kinds .entry)) (now (a .entry)) (now (b .entry)) (now (c .entry)) (now (values .entry))) (now (words .exit)) ⌝ }
 {
     if counts_right(n) {
         let bad_type = first_bad_type(n.types, parameters, results);

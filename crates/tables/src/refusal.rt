@@ -74,7 +74,7 @@ fn script_refusal(
     requires { ⌜ HoldNodes (n .nodes) (now kinds) (now a) (now b) (now c) (now values) ⌝ }
     requires { ⌜ min (n .nodes) maxNodes ≤ length (now words) ⌝ }
     ensures reply { λ r. ⌜ refusalOf r ≡ scriptRefusal (tablesScript (n .types) (n .inputs) (n .nodes) (tablesOf (now (parameters .entry)) (now (results .entry)) (now («input_types» .entry)) (now (kinds .entry)) (now (a .entry)) (now (b .entry)) (now (c .entry)) (now (values .entry)))) ⌝ }
-    ensures packed { λ r. ⌜ PackedTables r (n .nodes) (tablesOf (now (parameters .entry)) (now (results .entry)) (now («input_types» .entry)) (now (kinds .entry)) (now (a .entry)) (now (b .entry)) (now (c .entry)) (now (values .entry))) (now (words .entry)) (now (words .exit)) ⌝ }
+    ensures packed { λ r. ⌜ PackedTables r (n .nodes) (tablesOf (now (parameters .entry)) (now (results .entry)) (now («input_types» .entry)) (now (kinds .entry)) (now (a .entry)) (now (b .entry)) (now (c .entry)) (now (values .entry))) (now (words .exit)) ⌝ }
 {
     match content_refusal(
         n,
@@ -108,7 +108,7 @@ fn packed_refusal(
 ) -> Verdict
     requires { ⌜ min (n .nodes) maxNodes ≤ length (now words) ⌝ }
     ensures reply { λ r. ⌜ refusalOf r ≡ tablesRefusal (n .types) (n .inputs) (n .nodes) (tablesOf (now (parameters .entry)) (now (results .entry)) (now («input_types» .entry)) (now (kinds .entry)) (now (a .entry)) (now (b .entry)) (now (c .entry)) (now (values .entry))) ⌝ }
-    ensures packed { λ r. ⌜ PackedTables r (n .nodes) (tablesOf (now (parameters .entry)) (now (results .entry)) (now («input_types» .entry)) (now (kinds .entry)) (now (a .entry)) (now (b .entry)) (now (c .entry)) (now (values .entry))) (now (words .entry)) (now (words .exit)) ⌝ }
+    ensures packed { λ r. ⌜ PackedTables r (n .nodes) (tablesOf (now (parameters .entry)) (now (results .entry)) (now («input_types» .entry)) (now (kinds .entry)) (now (a .entry)) (now (b .entry)) (now (c .entry)) (now (values .entry))) (now (words .exit)) ⌝ }
 {
     if long_enough(
         n,
@@ -195,7 +195,7 @@ fn enough_words(nodes: u16, words: usize) -> bool
     (nodes as usize) <= words
 }
 
-// The same, and where nothing is refused the nodes in the lent words. What it answers where there are too few words says nothing.
+// The same, and where nothing is refused the nodes in the lent words. Where there are too few words it tells nothing of the tables, and does not pass.
 pub fn tables_packed(
     n: Counts,
     parameters: &[u16],
@@ -209,7 +209,7 @@ pub fn tables_packed(
     words: &mut [u64],
 ) -> Verdict
     ensures reply { λ r. ⌜ (min (n .nodes) maxNodes ≤ length (now (words .entry)) → Tells (tablesRefusal (n .types) (n .inputs) (n .nodes) (tablesOf (now (parameters .entry)) (now (results .entry)) (now («input_types» .entry)) (now (kinds .entry)) (now (a .entry)) (now (b .entry)) (now (c .entry)) (now (values .entry)))) r) ⌝ }
-    ensures packed { λ r. ⌜ PackedTables r (n .nodes) (tablesOf (now (parameters .entry)) (now (results .entry)) (now («input_types» .entry)) (now (kinds .entry)) (now (a .entry)) (now (b .entry)) (now (c .entry)) (now (values .entry))) (now (words .entry)) (now (words .exit)) ⌝ }
+    ensures packed { λ r. ⌜ PackedTables r (n .nodes) (tablesOf (now (parameters .entry)) (now (results .entry)) (now («input_types» .entry)) (now (kinds .entry)) (now (a .entry)) (now (b .entry)) (now (c .entry)) (now (values .entry))) (now (words .exit)) ⌝ }
 {
     if enough_words(n.nodes, words.len()) {
         packed_refusal(

@@ -2,7 +2,7 @@
 -- it. Assumes nothing.
 use Prim.Native.Nat.{ℕ, zero, suc, _+_, _-_, _*_, _≤_, _<_, max}
 use mathlib.Core.Path.{_≡_, refl, sym, ap, _∙_}
-use mathlib.Core.Bool.{Bool, true, false, _||_}
+use mathlib.Core.Bool.{Bool, true, false}
 use mathlib.Core.List.{List, [], _∷_}
 use mathlib.Core.Option.{Option, none, some}
 use native.Mathlib.Omega.{arith}
@@ -16,13 +16,15 @@ use Rattle.lambdamix.specs.Limits.{maxHeight}
 use Rattle.lambdamix.specs.Falling.{below}
 use Rattle.lambdamix.specs.Structure.{lowest, lowestBy, member}
 use Rattle.lambdamix.proofs.Falling.{below-at, falling-step, below-out}
+use Rattle.lambdamix.proofs.Tests.{or-right}
 use Rattle.lambdamix.specs.declared.Use.{Use}
 use Rattle.lambdamix.specs.declared.Use.the-variants.{Nothing}
 use Rattle.script.specs.Kinds.{isBinder, isChild}
 use Rattle.script.specs.declared.Row.{Row}
 use Rattle.script.specs.KindRows.{rowAt}
 use Rattle.script.specs.Words.{wordKind, wordA, wordB, wordC, Columns, columnsIn}
-use Rattle.walks.specs.Walks.{keptIf, rowChildren, wordChildren, gathered, heightAt, tooHighAt, heightOver, unboundField, unboundFields, unboundBy, unboundStep}
+use Rattle.walks.specs.Walks.{keptIf, rowChildren, wordChildren, gathered, heightAt, tooHighAt, heightOver, unboundField, unboundFields}
+use Rattle.walks.specs.Walks.{unboundBy, unboundStep}
 use Rattle.walks.specs.Walks.{unboundAt, unboundBelow, innermost, Kept, Entered, levelsIn, inputCountIn, Lower, same, node, Scoped}
 use Rattle.walks.proofs.Heights.{word-height, height-fields, low-none}
 
@@ -73,15 +75,13 @@ module _ (xs : List ℕ) (d x : ℕ) {f g : Bool} (seen : f ≡ member x (innerm
   unfolding innermost member
   found-before h e = e ∙ seen ∙ rw (add-one d, ne-eqb _ _ h)
 
--- what is found among some is found among one more, and among all further ones
-found-after : (b : Bool) {c : Bool} → true ≡ c → true ≡ (b || c)
-found-after true h = refl
-found-after false h = h
-
-pub found-further : (xs : List ℕ) (x d k : ℕ) → true ≡ member x (innermost xs d) → true ≡ member x (innermost xs (k + d))
+-- what is found among some is found among more
+pub found-further : (xs : List ℕ) (x d k : ℕ) → member x (innermost xs d) ≡ true → member x (innermost xs (k + d)) ≡ true
 unfolding innermost member
 found-further xs x d zero h = let e : 0 + d ≡ d = omega arith in rw e h
-found-further xs x d (suc k) h = let e : suc k + d ≡ suc (k + d) = omega arith in rw e (found-after (eqb (getD xs (k + d) 0) x) (found-further xs x d k h))
+found-further xs x d (suc k) h =
+    let e : suc k + d ≡ suc (k + d) = omega arith in
+    rw e (or-right (eqb (getD xs (k + d) 0) x) (found-further xs x d k h))
 
 -- ---- places and limits in one number
 
@@ -280,16 +280,20 @@ module _ (ws : List ℕ) (i j : ℕ) {l : ℕ} (e : l ≡ 65536 * (maxHeight - 1
   unfolding inputCountIn maxHeight
   root-inputs = omega (arith, e, b)
 
-  module _ {r : ℕ} {xs ys : List ℕ} (p : Scoped (heightAt (columnsIn ws) i) (levelsIn l + 1) (unboundAt (columnsIn ws) (inputCountIn l) i []) 0 65535 xs ys r) where
-    pub root-none : r ≡ 65535 → (tooHighAt (columnsIn ws) i ≡ none) × (unboundAt (columnsIn ws) j i [] ≡ none)
-    root-none f =
-        let q = place-none p f in
-        (low-none (columnsIn ws) i (omega (arith, q .0, root-levels)), rw root-inputs at (q .1))
+  module _
+      {r : ℕ}
+      {xs ys : List ℕ}
+      (p : Scoped (heightAt (columnsIn ws) i) (levelsIn l + 1) (unboundAt (columnsIn ws) (inputCountIn l) i []) 0 65535 xs ys r)
+    where
+      pub root-none : r ≡ 65535 → (tooHighAt (columnsIn ws) i ≡ none) × (unboundAt (columnsIn ws) j i [] ≡ none)
+      root-none f =
+          let q = place-none p f in
+          (low-none (columnsIn ws) i (omega (arith, q .0, root-levels)), rw root-inputs at (q .1))
 
-    pub root-high : r ≡ 0 → maxHeight < heightAt (columnsIn ws) i
-    root-high f = omega (arith, place-high p f, root-levels)
+      pub root-high : r ≡ 0 → maxHeight < heightAt (columnsIn ws) i
+      root-high f = omega (arith, place-high p f, root-levels)
 
-    pub root-some : (r ≡ 65535 → ⊥) → (r ≡ 0 → ⊥) → (tooHighAt (columnsIn ws) i ≡ none) × (unboundAt (columnsIn ws) j i [] ≡ some (r - 1))
-    root-some f g =
-        let q = place-some p f g in
-        (low-none (columnsIn ws) i (omega (arith, q .0, root-levels)), rw root-inputs at (q .1))
+      pub root-some : (r ≡ 65535 → ⊥) → (r ≡ 0 → ⊥) → (tooHighAt (columnsIn ws) i ≡ none) × (unboundAt (columnsIn ws) j i [] ≡ some (r - 1))
+      root-some f g =
+          let q = place-some p f g in
+          (low-none (columnsIn ws) i (omega (arith, q .0, root-levels)), rw root-inputs at (q .1))

@@ -23,7 +23,7 @@ returns-2 c =
     .before .pre in
     let tables = tells-refusal (at-tables-packed .ensures .0 at-pre) in
     let passed = c .before .before .enum-told .given .1 in
-    let annotated = c .annotation-refusal .ensures .reply _ _ _ _ _ (passed-tells-none tables passed) (at-tables-packed .ensures .1 .nodes passed at-pre) in
+    let annotated = c .annotation-refusal .ensures .reply _ _ _ _ _ (passed-tells-none tables passed) (at-tables-packed .ensures .1 .nodes passed) in
     refusal-tells (passed-tells-next tables passed (tells-refusal annotated))
 
 pub check-in-spec : {M : Type 1} → statement M

@@ -12,12 +12,11 @@ returns c =
 returns-2 : tie.Need-returns-2
 returns-2 c =
     let at-content-refusal = c .before .before .before .before .before .before .before .content-refusal in
-    let at-enum-told = c .before .before .before .enum-told in
-    let at-pre = c .before .before .before .before .before .before .before .before .before .before .before .before .before .before .before .before .before .pre in (
+    let at-enum-told = c .before .before .before .enum-told in (
       refused-by-structure _ _ _ _ _ _ _ _ _ _ _ (at-content-refusal .ensures .0) (at-enum-told .given .1) (at-content-refusal .ensures .1)
-          (at-pre .1) _ (c .structure-refusal .ensures),
+          _ (c .structure-refusal .ensures),
       packed-by-content _ _ _ _ _ _ _ _ _ _ _ (at-content-refusal .ensures .0) (at-enum-told
-          .given .1) (at-content-refusal .ensures .1) (at-pre .1) _,
+          .given .1) (at-content-refusal .ensures .1) _,
     )
 
 content-refusal-requires : tie.Need-content-refusal-requires

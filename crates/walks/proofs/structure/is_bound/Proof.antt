@@ -28,8 +28,8 @@ returns c =
     let a = c .before .before .before .before .before .args in
     let end = c .before .before .stride-end .result in
     let e : a .depth - end + end ≡ a .depth = omega (arith, c .before .before .stride-end .ensures .1) in
-    subst (λ k. true ≡ member (a .x .0) (innermost (a .names .now) k)) e
-    (found-further _ _ end (a .depth - end) (sym (c .if1 .taken) ∙ c .before .is-among .ensures))
+    sym (subst (λ k. member (a .x .0) (innermost (a .names .now) k) ≡ true) e
+    (found-further _ _ end (a .depth - end) (sym (c .before .is-among .ensures) ∙ c .if1 .taken)))
 
 loop-again : tie.Need-loop-again Inv-loop μ-loop
 loop-again c = (c .before .before .stride-end .ensures .1, sym (c .if1 .left) ∙ c .before .is-among .ensures)

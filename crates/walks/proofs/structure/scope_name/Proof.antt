@@ -21,7 +21,8 @@ unfolding unboundName unlessBound inputCountIn
 returns-3 c =
     let at-if1 = c .before .before .before .before .if1 in
     let at-is-bound = c .before .before .before .is-bound in
-    rw (le-ltb _ _ (at-if1 .left), sym (at-is-bound .ensures) ∙ c .before .before .if2 .left) (node (c .before .before .before .before .before .before .pre .1) (c .lower .ensures))
+    let at-pre = c .before .before .before .before .before .before .pre in
+    rw (le-ltb _ _ (at-if1 .left), sym (at-is-bound .ensures) ∙ c .before .before .if2 .left) (node (at-pre .1) (c .lower .ensures))
 
 add-lower : tie.Need-add-lower
 add-lower c = omega (arith, c .before .before .before .before .before .pre)

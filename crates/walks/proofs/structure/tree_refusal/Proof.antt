@@ -27,19 +27,22 @@ returns c =
 sub-place : tie.Need-sub-t17
 unfolding innermost maxHeight
 sub-place c =
-    let h = root-high (c .before .before .before .before .before .before .before .before .args .t1 .now) _ _ refl (omega arith) (c .before .before .before .before .scope .ensures) (c .before .before .if2 .taken) in
+    let nodes = c .before .before .before .before .before .before .before .before .args .t1 .now in
+    let h = root-high nodes _ _ refl (omega arith) (c .before .before .before .before .scope .ensures) (c .before .before .if2 .taken) in
     omega (arith, height-above (c .height .ensures) h)
 
 returns-2 : tie.Need-returns-2
 unfolding innermost refusalOf refusedAt orElse maxHeight
 returns-2 c =
-    let h = root-high (c .before .before .before .before .before .before .before .before .args .t1 .now) _ _ refl (omega arith) (c .before .before .before .before .scope .ensures) (c .before .before .if2 .taken) in
+    let nodes = c .before .before .before .before .before .before .before .before .args .t1 .now in
+    let h = root-high nodes _ _ refl (omega arith) (c .before .before .before .before .scope .ensures) (c .before .before .if2 .taken) in
     rw (height-high (c .height .ensures) (height-above (c .height .ensures) h))
 
 returns-3 : tie.Need-returns-3
 unfolding innermost refusalOf refusedAt orElse maxHeight
 returns-3 c =
-    let q = root-some (c .before .before .before .before .before .before .args .t1 .now) _ _ refl (omega arith) (c .before .before .scope .ensures) (c .before .if1 .left) (c .if2 .left) in
+    let nodes = c .before .before .before .before .before .before .args .t1 .now in
+    let q = root-some nodes _ _ refl (omega arith) (c .before .before .scope .ensures) (c .before .if1 .left) (c .if2 .left) in
     rw (q .0, q .1)
 
 pub tree-refusal-spec : {M : Type 1} → statement M
