@@ -1,5 +1,5 @@
-/* Makes a script for one model's settings: make SCRIPT MADE [SETTING..]. It prints the reply and the
- * listing of the code, and writes the made file. Exit status: 0 with code, 1 without, 2 where a word or
+/* Makes a script for one model's settings: make SCRIPT MADE [SETTING..]. It prints the reply, in words too
+ * where a result leaves the range, and the listing of the code, and writes the made file. Exit status: 0 with code, 1 without, 2 where a word or
  * a file is at fault. */
 #include <ctype.h>
 #include <errno.h>
@@ -64,6 +64,8 @@ static int make(const char *from, const char *to, const int32_t *settings, size_
     struct scriptmaker_make_reply made = scriptmaker_make(script.counts, SCRIPTMAKER_OF(&script), settings, given,
                                                           FUEL, SCRIPTMAKER_IN(&stores), out, sizeof out);
     printf("made: number %u place %zu steps %u nodes %u\n", made.number, made.place, made.steps, made.nodes);
+    if (made.number == SCRIPTMAKER_ABOVE_RANGE) printf("the result of node %zu is above 2147483647\n", made.place);
+    if (made.number == SCRIPTMAKER_BELOW_RANGE) printf("the result of node %zu is below -2147483648\n", made.place);
     if (made.number) return 1;
 
     size_t length = 8 + 4 * (size_t)script.counts.inputs + 13 * (size_t)made.nodes;

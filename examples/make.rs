@@ -1,8 +1,8 @@
-//! Makes a script for one model's settings: make SCRIPT MADE [SETTING..]. It prints the reply and
-//! the listing of the code, and writes the made file. Exit status: 0 with code, 1 without, 2 where a
-//! word or a file is at fault.
+//! Makes a script for one model's settings: make SCRIPT MADE [SETTING..]. It prints the reply, in
+//! words too where a result leaves the range, and the listing of the code, and writes the made file.
+//! Exit status: 0 with code, 1 without, 2 where a word or a file is at fault.
 
-use scriptmaker::{Refusal, Script, Stores, MAX_FILE, MAX_LISTING};
+use scriptmaker::{number, Refusal, Script, Stores, MAX_FILE, MAX_LISTING};
 use std::ffi::{OsStr, OsString};
 use std::fmt::Display;
 use std::io::Write;
@@ -73,6 +73,11 @@ fn make(file: &[u8], settings: &[i32], said: &mut String) -> Option<Vec<u8>> {
         Err(f) => (f.number, f.place, f.steps, 0),
     };
     *said += &format!("made: number {number} place {place} steps {steps} nodes {nodes}\n");
+    match number {
+        number::ABOVE_RANGE => *said += &format!("the result of node {place} is above 2147483647\n"),
+        number::BELOW_RANGE => *said += &format!("the result of node {place} is below -2147483648\n"),
+        _ => (),
+    }
     out.truncate(reply.ok()?.length);
     Some(out)
 }

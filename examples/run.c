@@ -1,5 +1,5 @@
-/* Runs a script on a number for every input, in order: run SCRIPT [NUMBER..]. It prints the reply and the
- * result, a number or "a function". Exit status: 0 with a result, 1 without, 2 where a word or a file is at
+/* Runs a script on a number for every input, in order: run SCRIPT [NUMBER..]. It prints the reply, in words
+ * too where a result leaves the range, and the result, a number or "a function". Exit status: 0 with a result, 1 without, 2 where a word or a file is at
  * fault. */
 #include <ctype.h>
 #include <errno.h>
@@ -57,6 +57,8 @@ static int run(const char *from, const int32_t *numbers, size_t given) {
     struct scriptmaker_run_reply ran = scriptmaker_run(script.counts, SCRIPTMAKER_OF(&script), numbers, given,
                                                        SCRIPTMAKER_FUEL, heap, SCRIPTMAKER_HEAP);
     printf("ran: number %u place %zu steps %u\n", ran.number, ran.place, ran.steps);
+    if (ran.number == SCRIPTMAKER_ABOVE_RANGE) printf("the result of node %zu is above 2147483647\n", ran.place);
+    if (ran.number == SCRIPTMAKER_BELOW_RANGE) printf("the result of node %zu is below -2147483648\n", ran.place);
     if (ran.number) return 1;
     if (ran.function)
         printf("a function\n");

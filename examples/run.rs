@@ -1,8 +1,8 @@
-//! Runs a script on a number for every input, in order: run SCRIPT [NUMBER..]. It prints the reply and
-//! the result, a number or "a function". Exit status: 0 with a result, 1 without, 2 where a word or a
-//! file is at fault.
+//! Runs a script on a number for every input, in order: run SCRIPT [NUMBER..]. It prints the reply, in
+//! words too where a result leaves the range, and the result, a number or "a function". Exit status: 0
+//! with a result, 1 without, 2 where a word or a file is at fault.
 
-use scriptmaker::{Outcome, Ran, Refusal, Script, MAX_FUEL, MAX_INPUTS};
+use scriptmaker::{number, Outcome, Ran, Refusal, Script, MAX_FUEL, MAX_INPUTS};
 use std::ffi::{OsStr, OsString};
 use std::fmt::Display;
 use std::io::Write;
@@ -57,6 +57,11 @@ fn ran(file: &[u8], numbers: &[i32], said: &mut String) -> Option<Ran> {
         Err(f) => (f.number, f.place, f.steps),
     };
     *said += &format!("ran: number {number} place {place} steps {steps}\n");
+    match number {
+        number::ABOVE_RANGE => *said += &format!("the result of node {place} is above 2147483647\n"),
+        number::BELOW_RANGE => *said += &format!("the result of node {place} is below -2147483648\n"),
+        _ => (),
+    }
     let ran = reply.ok()?;
     *said += &match ran.outcome {
         Outcome::Number(value) => format!("{value}\n"),

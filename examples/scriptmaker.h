@@ -29,6 +29,34 @@ enum {
     SCRIPTMAKER_STACK = 4 * 1024 * 1024
 };
 
+/* The numbers of replies; in brackets the place that comes with each. */
+enum scriptmaker_number {
+    SCRIPTMAKER_SUCCESS = 0,           /* [0] */
+    SCRIPTMAKER_WRONG_LENGTH = 1,      /* not the length that the counts give [length]; tables below the counts [0] */
+    SCRIPTMAKER_WRONG_MARK = 2,        /* [offset] */
+    SCRIPTMAKER_WRONG_COUNT = 3,       /* outside its limit [0] */
+    SCRIPTMAKER_BAD_RECORD = 4,        /* a bad type or input [offset] */
+    SCRIPTMAKER_BAD_NODE = 5,          /* [offset] */
+    SCRIPTMAKER_NOT_USED_ONCE = 6,     /* a node used never or twice [node] */
+    SCRIPTMAKER_TREE_TOO_HIGH = 7,     /* [node] */
+    SCRIPTMAKER_UNBOUND_VARIABLE = 8,  /* [node] */
+    SCRIPTMAKER_WRONG_MARKS = 9,       /* marks that do not fit [node] */
+    SCRIPTMAKER_TYPE_NOT_LISTED = 10,  /* of a function [node] */
+    SCRIPTMAKER_ROOT_NOT_LATE = 11,    /* [root] */
+    SCRIPTMAKER_WRONG_SETTINGS = 12,   /* not as many settings, or numbers, as are wanted [0] */
+    SCRIPTMAKER_TOO_MUCH_FUEL = 13,    /* [0] */
+    SCRIPTMAKER_STORE_TOO_SHORT = 20,  /* [0] */
+    SCRIPTMAKER_OUTPUT_TOO_SHORT = 21, /* [0] */
+    SCRIPTMAKER_FUEL_SPENT = 22,       /* [node to be visited, or the application that unfolds] */
+    SCRIPTMAKER_TOO_DEEP = 23,         /* [the same] */
+    SCRIPTMAKER_ABOVE_RANGE = 24,      /* a result above 2147483647 [operation] */
+    SCRIPTMAKER_DIVISOR_ZERO = 25,     /* [operation] */
+    SCRIPTMAKER_CODE_TOO_LARGE = 26,   /* for a script file [0] */
+    SCRIPTMAKER_CLASH = 27,            /* marks that do not fit, met by a bare run [node] */
+    SCRIPTMAKER_PLAIN_CLASH = 28,      /* a number as a function or a function as a number, in a plain run [node] */
+    SCRIPTMAKER_BELOW_RANGE = 29       /* a result below -2147483648 [operation] */
+};
+
 /* How many types, inputs and nodes a script has. */
 struct scriptmaker_counts {
     uint16_t types;
@@ -94,7 +122,7 @@ struct scriptmaker_write_reply scriptmaker_list(struct scriptmaker_counts counts
 /* These refusals, then 9 to 11. */
 struct scriptmaker_check_reply scriptmaker_check(struct scriptmaker_counts counts, SCRIPTMAKER_COLUMNS(const));
 
-/* These refusals, then 9 to 13 and 20; the run, with stops 22 to 25; 26, 21. Finished code is written to the output as a script
+/* These refusals, then 9 to 13 and 20; the run, with stops 22 to 25 and 29; 26, 21. Finished code is written to the output as a script
  * file; without code the output stays as it was. The stores are untouched before a run and hold zeros after it. */
 struct scriptmaker_make_reply scriptmaker_make(struct scriptmaker_counts counts, SCRIPTMAKER_COLUMNS(const),
                                                const int32_t *settings, size_t settings_length, uint32_t fuel,
@@ -108,7 +136,7 @@ struct scriptmaker_make_reply scriptmaker_bare_run(struct scriptmaker_counts cou
                                                    size_t codes_length, uint8_t *out, size_t out_length);
 
 /* The plain run, without marks and lifts, on a number for every input, in order. These refusals, then 12, 13 and 20; the run, with
- * stops 22 to 25 and 28. The heap is untouched before a run and holds zeros after it. */
+ * stops 22 to 25, 28 and 29. The heap is untouched before a run and holds zeros after it. */
 struct scriptmaker_run_reply scriptmaker_run(struct scriptmaker_counts counts, SCRIPTMAKER_COLUMNS(const),
                                              const int32_t *numbers, size_t numbers_length, uint32_t fuel,
                                              uint64_t *heap, size_t heap_length);

@@ -11,6 +11,58 @@ pub const MAX_FILE: usize = 8 + 6 * MAX_TYPES + 4 * MAX_INPUTS + 13 * MAX_NODES;
 /// No listing is longer.
 pub const MAX_LISTING: usize = 65536;
 
+/// The numbers of replies; in brackets the place that comes with each.
+pub mod number {
+    /// [0]
+    pub const SUCCESS: u8 = 0;
+    /// Not the length that the counts give [length]; tables below the counts [0].
+    pub const WRONG_LENGTH: u8 = 1;
+    /// [offset]
+    pub const WRONG_MARK: u8 = 2;
+    /// Outside its limit [0].
+    pub const WRONG_COUNT: u8 = 3;
+    /// A bad type or input [offset].
+    pub const BAD_RECORD: u8 = 4;
+    /// [offset]
+    pub const BAD_NODE: u8 = 5;
+    /// A node used never or twice [node].
+    pub const NOT_USED_ONCE: u8 = 6;
+    /// [node]
+    pub const TREE_TOO_HIGH: u8 = 7;
+    /// [node]
+    pub const UNBOUND_VARIABLE: u8 = 8;
+    /// Marks that do not fit [node].
+    pub const WRONG_MARKS: u8 = 9;
+    /// Of a function [node].
+    pub const TYPE_NOT_LISTED: u8 = 10;
+    /// [root]
+    pub const ROOT_NOT_LATE: u8 = 11;
+    /// Not as many settings, or numbers, as are wanted [0].
+    pub const WRONG_SETTINGS: u8 = 12;
+    /// [0]
+    pub const TOO_MUCH_FUEL: u8 = 13;
+    /// [0]
+    pub const STORE_TOO_SHORT: u8 = 20;
+    /// [0]
+    pub const OUTPUT_TOO_SHORT: u8 = 21;
+    /// [node to be visited, or the application that unfolds]
+    pub const FUEL_SPENT: u8 = 22;
+    /// [the same]
+    pub const TOO_DEEP: u8 = 23;
+    /// A result above 2147483647 [operation].
+    pub const ABOVE_RANGE: u8 = 24;
+    /// [operation]
+    pub const DIVISOR_ZERO: u8 = 25;
+    /// For a script file [0].
+    pub const CODE_TOO_LARGE: u8 = 26;
+    /// Marks that do not fit, met by a bare run [node].
+    pub const CLASH: u8 = 27;
+    /// A number as a function or a function as a number, in a plain run [node].
+    pub const PLAIN_CLASH: u8 = 28;
+    /// A result below -2147483648 [operation].
+    pub const BELOW_RANGE: u8 = 29;
+}
+
 /// How many types, inputs and nodes a script has.
 #[repr(C)]
 #[derive(Clone, Copy, Debug, Default, PartialEq, Eq)]
@@ -497,7 +549,7 @@ impl Script {
     }
 
     /// The plain run, without marks and lifts, on a number for every input, in order: refusals 1 to 8, then 12, 13 and 20; stops 22
-    /// to 25 and 28.
+    /// to 25, 28 and 29.
     pub fn run(&self, numbers: &[i32], fuel: u32, heap: &mut [u64]) -> Result<Ran, Refusal> {
         // SAFETY: each pointer and length come from one slice, and `heap` overlaps no other.
         let reply = unsafe {

@@ -20,9 +20,9 @@ fn numbers(entry: Entry) -> Vec<usize> {
         Entry::Read => &[2, 21],
         Entry::Write | Entry::List => &[21],
         Entry::Check => &[9, 10, 11],
-        Entry::Make => &[9, 10, 11, 12, 13, 20, 21, 22, 23, 24, 25, 26],
-        Entry::BareRun => &[12, 13, 20, 21, 22, 23, 24, 25, 26, 27],
-        Entry::Run => &[12, 13, 20, 22, 23, 24, 25, 28],
+        Entry::Make => &[9, 10, 11, 12, 13, 20, 21, 22, 23, 24, 25, 26, 29],
+        Entry::BareRun => &[12, 13, 20, 21, 22, 23, 24, 25, 26, 27, 29],
+        Entry::Run => &[12, 13, 20, 22, 23, 24, 25, 28, 29],
     };
     let mut all = [&[0, 1, 3, 4, 5, 6, 7, 8], own].concat();
     all.sort();

@@ -1,6 +1,7 @@
 pub mod Tests
 pub mod Falling
 pub mod KindCases
+pub mod Results
 pub mod Signed
 pub mod Answers
 pub mod Checking

@@ -24,11 +24,13 @@ pub enum Operator {
     Less,
 }
 
-// Why a run stops: its fuel is spent, it is too deep, a result is out of range, a divisor is 0, or a value is of another sort than its rule wants.
+// Why a run stops: its fuel is spent, it is too deep, a result is above the range or below it, a divisor is 0, or a value is of another sort than
+// its rule wants.
 pub enum Reason {
     FuelSpent,
     TooDeep,
-    OutOfRange,
+    AboveRange,
+    BelowRange,
     DivisorZero,
     Clash,
 }
@@ -42,6 +44,7 @@ pub enum Mode {
 // What an operation gives: a number of 32 bits, or the reason for a stop.
 pub enum Outcome {
     Value(i32),
-    OutOfRange,
+    AboveRange,
+    BelowRange,
     DivisorZero,
 }

@@ -11,7 +11,8 @@ fn number_of(r: Reason, clash: u8) -> u8
     match r {
         Reason::FuelSpent => 22,
         Reason::TooDeep => 23,
-        Reason::OutOfRange => 24,
+        Reason::AboveRange => 24,
+        Reason::BelowRange => 29,
         Reason::DivisorZero => 25,
         Reason::Clash => clash,
     }

@@ -38,7 +38,7 @@ fn reply(r: Reply) -> RunReply
     }
 }
 
-// The plain run of a script on a number for every input: refusals 1 to 8, 12, 13, 20; the run, with stops 22 to 25 and 28.
+// The plain run of a script on a number for every input: refusals 1 to 8, 12, 13, 20; the run, with stops 22 to 25, 28 and 29.
 #[no_mangle]
 pub extern "C" fn scriptmaker_run(
     n: Counts,

@@ -3,6 +3,7 @@
 
 mod builder;
 mod damaged;
+mod ends;
 mod ill_typed;
 mod late_numbers;
 mod marks;
@@ -82,6 +83,12 @@ fn with(script: &Script, settings: &[i32]) -> Vec<u8> {
 fn random_settings(script: &Script, random: &mut Random) -> Vec<i32> {
     let early = script.inputs.iter().filter(|&&input| input == S);
     early.map(|_| random.number()).collect()
+}
+
+/// The settings among the numbers for all inputs.
+fn settings_of(script: &Script, numbers: &[i32]) -> Vec<i32> {
+    let early = script.inputs.iter().zip(numbers).filter(|(&input, _)| input == S);
+    early.map(|(_, &number)| number).collect()
 }
 
 /// Numbers the nodes of a tree anew, at random, children below parents.

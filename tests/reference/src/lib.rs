@@ -1,6 +1,7 @@
 //! A second implementation of the script maker, from the papers alone, and a
 //! corpus to compare the two.
 
+pub mod arithmetic;
 pub mod assemble;
 pub mod benchmake;
 pub mod benchrun;
@@ -13,6 +14,7 @@ pub mod listing;
 pub mod makes;
 pub mod plain;
 pub mod random;
+pub mod range_trials;
 pub mod run_checks;
 pub mod run_trials;
 pub mod runs;

@@ -1,10 +1,12 @@
-//! Calls of the maker, packed for the program `trials`, and the replies to them: the bench trials, the power script of source
-//! document 001, Example 1, runs that go deep or grow large, and seeded scripts under any fuel, stores and output.
+//! Calls of the maker, packed for the program `trials`, and the replies to them: the bench trials, operations at both ends of the
+//! range, the power script of source document 001, Example 1, runs that go deep or grow large, and seeded scripts under any fuel,
+//! stores and output.
 
 use crate::assemble::assemble;
 use crate::benchmake::{read_settings, split};
 use crate::generate;
 use crate::random::Random;
+use crate::range_trials::{makings, Making};
 use crate::script::{encode, read, Reply};
 use crate::self_check::{script_a, script_a_without_lift, POWER};
 use crate::specializer::{bare_run, make, Lent, MAX_FUEL};
@@ -88,11 +90,12 @@ fn bench_trials(calls: &mut Vec<Call>) {
     let a = encode(&script_a());
     for setting in [40, 21474836, 21474837, -21474836, -21474837] {
         calls.push(Call::ample(&a, &[setting], 4_000));
+        calls.push(Call { bare: true, ..Call::ample(&a, &[setting], 4_000) });
     }
     for fuel in [6, 5, 0, 16_001] {
         calls.push(Call::ample(&a, &[40], fuel));
     }
-    for operation in ["(/ -7 2)", "(/ 7 -2)", "(/ -2147483648 -1)", "(/ 1 0)", "(* 65536 32768)"] {
+    for operation in ["(/ -7 2)", "(/ 7 -2)", "(/ -2147483648 -1)", "(/ 1 0)"] {
         let text = format!("(script (types) (inputs) (lift {operation}))");
         calls.push(Call::ample(&file(&text), &[], 4_000));
     }
@@ -107,6 +110,13 @@ fn bench_trials(calls: &mut Vec<Call>) {
        (_lam v0 (app (lam v1 D (_lam v0 (_app v1 v0))) v0)))";
     calls.push(Call::ample(&file(captured), &[], 4_000));
     calls.push(Call::ample(&file("(script (types) (inputs) 7)"), &[], 4_000));
+}
+
+/// Operations at both ends of the range.
+fn range_trials(calls: &mut Vec<Call>) {
+    for Making { bare, fuel, settings, file, .. } in makings() {
+        calls.push(Call { bare, ..Call::ample(&file, &settings, fuel) });
+    }
 }
 
 /// Power: n of 0, 2, 5; out of fuel; the highest that fits a file, and the first that does not.
@@ -168,6 +178,7 @@ fn seeded_call(seed: u64, index: u64) -> Option<Call> {
 pub fn calls(seed: u64, count: usize) -> Vec<Vec<u8>> {
     let mut calls = Vec::new();
     bench_trials(&mut calls);
+    range_trials(&mut calls);
     power_trials(&mut calls);
     large_trials(&mut calls);
     calls.extend((0..).filter_map(|index| seeded_call(seed, index)).take(count));

@@ -8,9 +8,8 @@ use crate::lent::{Entry, Memory};
 use crate::plain::{run, Outcome, Ran};
 use crate::run_trials::trials;
 use crate::script::*;
-use crate::self_check::{script_a, Tally};
+use crate::self_check::{often, replies_trial, script_a, Tally};
 use crate::specializer::{specialize, Lent, MAX_FUEL};
-use std::collections::BTreeSet;
 
 pub fn run_checks(tally: &mut Tally) {
     for trial in trials() {
@@ -31,6 +30,7 @@ fn printed_trials(tally: &mut Tally) {
     tally.trial("A on 40 and 5", on(&a, &[40, 5]), said("steps 5\n1\n"));
     tally.trial("A on 40 and 5,000", on(&a, &[40, 5_000]), said("steps 5\n0\n"));
     tally.trial("A above", on(&a, &[21_474_837, 5]), said("stopped 24 2\n"));
+    tally.trial("A below", on(&a, &[-21_474_837, 5]), said("stopped 29 2\n"));
     tally.trial("A on 40", on(&a, &[40]), said("refused 12 0\n"));
     tally.trial("A on three", on(&a, &[40, 5, 6]), said("refused 12 0\n"));
     let cut = prints(&a, &encode_settings(&[40, 5])[..11]);
@@ -68,6 +68,8 @@ fn lent_trials(tally: &mut Tally) {
     };
     tally.trial("lent", ran(6, &[40, 5], 5, 21), (0, 0, 5, 1, true));
     tally.trial("lent, stopped", ran(6, &[40, 5], 4, 30), (22, 1, 4, 0, true));
+    tally.trial("lent, above", ran(6, &[21_474_837, 5], 5, 21), (24, 2, 5, 0, true));
+    tally.trial("lent, below", ran(6, &[-21_474_837, 5], 5, 21), (29, 2, 5, 0, true));
     tally.trial("lent, tables short", ran(7, &[], 16_001, 0), (1, 0, 0, 0, false));
     tally.trial("lent, no nodes", ran(0, &[], 16_001, 0), (3, 0, 0, 0, false));
     tally.trial("lent, unused nodes", ran(5, &[], 16_001, 0), (6, 3, 0, 0, false));
@@ -80,9 +82,9 @@ fn lent_trials(tally: &mut Tally) {
 /// Among 5,000 inputs each reply occurs, a function too, and a third or more finish.
 fn reading_trials(tally: &mut Tally) {
     let answers: Vec<_> = (0..5_000).map(|index| answer(&reading(1, index))).collect();
-    let numbers: BTreeSet<u8> = answers.iter().filter_map(|a| Some(a.err()?.number)).collect();
-    let wanted = [1, 2, 3, 4, 5, 6, 7, 8, 12, 22, 23, 24, 25, 28];
-    tally.trial("replies to readings", numbers, BTreeSet::from(wanted));
+    let often = often(answers.iter().filter_map(|answer| Some(answer.err()?.number)));
+    let wanted = [1, 2, 3, 4, 5, 6, 7, 8, 12, 22, 23, 24, 25, 28, 29];
+    replies_trial(tally, "replies to readings", &often, &wanted);
     let finished: Vec<Ran> = answers.iter().filter_map(|answer| answer.ok()).collect();
     let functions = finished.iter().filter(|ran| ran.outcome == Outcome::Function).count();
     tally.trial("functions among readings", functions > 0, true);

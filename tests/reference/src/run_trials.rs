@@ -2,6 +2,7 @@
 
 use crate::assemble::assemble;
 use crate::plain::{Outcome, Ran};
+use crate::range_trials::{late, on_inputs, MOMENTS, OPERATIONS};
 use crate::runs::Call;
 use crate::script::*;
 use crate::self_check::{script_a, script_a_without_lift, POWER};
@@ -19,6 +20,7 @@ pub fn trials() -> Vec<Trial> {
     input_a(&mut trials);
     before_the_run(&mut trials);
     arithmetic(&mut trials);
+    range_ends(&mut trials);
     power(&mut trials);
     clashes(&mut trials);
     lifts(&mut trials);
@@ -97,10 +99,10 @@ fn input_a(trials: &mut Trials) {
         (-21_474_836, -2_147_483_601, 1),
         (-21_474_836, -2_147_483_600, 0),
     ] {
-        trials.add("A at 24's ends", on(&[setting, reading]), number(verdict, 5));
+        trials.add("A at both ends", on(&[setting, reading]), number(verdict, 5));
     }
     trials.add("A above", on(&[21_474_837, 5]), stop(24, 2, 5));
-    trials.add("A below", on(&[-21_474_837, 5]), stop(24, 2, 5));
+    trials.add("A below", on(&[-21_474_837, 5]), stop(29, 2, 5));
     let unlifted = encode(&script_a_without_lift());
     trials.add("A without lift", Call::ample(&unlifted, &[40, 5]), number(1, 5));
 }
@@ -130,18 +132,14 @@ fn before_the_run(trials: &mut Trials) {
     trials.add("16 numbers in order", Call::ample(&many, &digits), number(value, 61));
 }
 
-/// Each operator, at the ends of the range too.
+/// Each operator; quotients of all signs, and operations with any marks below them.
 fn arithmetic(trials: &mut Trials) {
     for (term, value) in [
         ("(/ -7 2)", -3),
         ("(/ 7 -2)", -3),
         ("(/ -7 -2)", 3),
         ("(_/ (lift 1) (lift 2))", 0),
-        ("(/ -2147483648 1)", i32::MIN),
-        ("(/ 2147483647 -1)", -i32::MAX),
-        ("(+ 2147483646 1)", i32::MAX),
         ("(_- -2147483647 1)", i32::MIN),
-        ("(* -65536 32768)", i32::MIN),
         ("(= 3 3)", 1),
         ("(= 3 -3)", 0),
         ("(_< -2147483648 2147483647)", 1),
@@ -149,14 +147,27 @@ fn arithmetic(trials: &mut Trials) {
     ] {
         trials.term(term, number(value, 3));
     }
-    for term in ["(+ 2147483647 1)", "(- -2147483648 1)", "(* 65536 32768)", "(/ -2147483648 -1)"] {
-        trials.term(term, stop(24, 2, 3));
-    }
-    trials.term("(_* (lift 65536) (lift -32769))", stop(24, 4, 3));
     trials.term("(/ 1 0)", stop(25, 2, 3));
     trials.term("(_/ (lift 0) (lift 0))", stop(25, 4, 3));
-    // The left operand is finished before the right is visited.
-    trials.term("(+ (/ 1 0) (/ -2147483648 -1))", stop(25, 2, 4));
+}
+
+/// Operations at both ends of the range: early, late, and on inputs.
+fn range_ends(trials: &mut Trials) {
+    for &(operation, result) in OPERATIONS {
+        let wanted = |place| match result {
+            Ok(value) => number(value, 3),
+            Err(reason) => stop(reason, place, 3),
+        };
+        trials.term(operation, wanted(2));
+        trials.term(&late(operation), wanted(4));
+        let (term, numbers) = on_inputs(operation);
+        trials.add(operation, Call::ample(&file("S D", &term), &numbers), wanted(2));
+    }
+    for &(term, reason, place, steps) in MOMENTS {
+        trials.term(term, stop(reason, place, steps));
+        trials.fuelled(term, steps, stop(reason, place, steps));
+        trials.fuelled(term, steps - 1, stop(22, place - 1, steps - 1));
+    }
 }
 
 /// The power script: 14 steps and 16 for each multiplication, 3 deeper at each.
@@ -175,6 +186,7 @@ fn power(trials: &mut Trials) {
         trials.add(&format!("power {n}"), raised(n, x), number(value, 14 + 16 * n as usize));
     }
     trials.add("power, above", raised(3, 1_291), stop(24, 13, 62));
+    trials.add("power, below", raised(3, -1_291), stop(29, 13, 62));
     trials.add("power 31", raised(31, 2), stop(24, 13, 510));
     trials.add("power 666", raised(666, 1), stop(23, 6, 10_657));
     trials.add("power -1", raised(-1, 1), stop(23, 6, 10_657));
@@ -339,6 +351,7 @@ fn finished_code(trials: &mut Trials) {
         trials.add("power made for 5", Call::ample(&power, &[5, x]), number(value, 11));
     }
     trials.add("power made for 5, above", Call::ample(&power, &[5, 74]), stop(24, 11, 11));
+    trials.add("power made for 5, below", Call::ample(&power, &[5, -74]), stop(29, 11, 11));
     let captured = "(_lam v0 (app (lam v1 D (_lam v0 (_app v1 v0))) v0))";
     trials.add("made function", Call::ample(&made(&file("", captured), &[]), &[]), function(1));
     // The quotient is made before the reading is known; the late branch is not taken.

@@ -1,5 +1,5 @@
-//! The bench trials, the power script of source document 001, Example 1,
-//! trials of the parts, and those of the plain run.
+//! The bench trials, operations at both ends of the range, the power script of
+//! source document 001, Example 1, trials of the parts, and those of the plain run.
 
 use crate::assemble::assemble;
 use crate::benchmake::{answer, benchmake, encode_settings, FUEL};
@@ -7,9 +7,11 @@ use crate::checker;
 use crate::generate;
 use crate::lent::{Entry, Memory};
 use crate::listing::{listing, listing_lent, MAX_LISTING};
+use crate::range_trials::range_checks;
 use crate::run_checks::run_checks;
 use crate::script::*;
 use crate::specializer::{bare_run, make, Lent, Made};
+use std::collections::BTreeMap;
 
 pub struct Tally {
     passed: usize,
@@ -30,10 +32,13 @@ impl Tally {
 /// Runs all trials and tells whether none failed.
 pub fn self_check() -> bool {
     let mut tally = Tally { passed: 0, failed: 0 };
+    input_a_trials(&mut tally);
     bench_trials(&mut tally);
+    range_checks(&mut tally);
     power_trials(&mut tally);
     part_trials(&mut tally);
     corpus_trials(&mut tally);
+    reply_trials(&mut tally);
     run_checks(&mut tally);
     println!("{} passed, {} failed", tally.passed, tally.failed);
     tally.failed == 0
@@ -70,46 +75,57 @@ fn file(text: &str) -> Vec<u8> {
     encode(&assemble(text).expect("a good text"))
 }
 
-fn with_settings(script: &[u8], settings: &[i32]) -> Vec<u8> {
+pub fn with_settings(script: &[u8], settings: &[i32]) -> Vec<u8> {
     let mut input = script.to_vec();
     input.extend(encode_settings(settings));
     input
 }
 
 /// Number, place and steps of a reply, with the listing of made code.
-fn told(result: Result<Made, Reply>) -> (u8, usize, usize, String) {
+pub type Told = (u8, usize, usize, String);
+
+pub fn told(result: Result<Made, Reply>) -> Told {
     match result {
         Ok(made) => (0, 0, made.steps, listing(&made.script)),
         Err(reply) => (reply.number, reply.place, reply.steps, String::new()),
     }
 }
 
-fn success(steps: usize, text: &str) -> (u8, usize, usize, String) {
+pub fn success(steps: usize, text: &str) -> Told {
     (0, 0, steps, format!("{text}\n"))
 }
 
-fn failure(number: u8, place: usize, steps: usize) -> (u8, usize, usize, String) {
+pub fn failure(number: u8, place: usize, steps: usize) -> Told {
     (number, place, steps, String::new())
 }
 
-fn bench_trials(tally: &mut Tally) {
+fn input_a_trials(tally: &mut Tally) {
     let a = encode(&script_a());
     tally.trial("A, length", a.len(), 94);
     let prints = |settings: &[i32]| benchmake(&with_settings(&a, settings));
     let fine = |constant: &str| format!("accepted\nsteps 6\nnodes 4\n(< i1 {constant})\n");
-    let stopped = "accepted\nstopped 24 2\n".to_string();
+    let stopped = |number: u8| format!("accepted\nstopped {number} 2\n");
     tally.trial("A with 40", prints(&[40]), fine("4000"));
     tally.trial("A with 21474836", prints(&[21474836]), fine("2147483600"));
-    tally.trial("A with 21474837", prints(&[21474837]), stopped.clone());
+    tally.trial("A with 21474837", prints(&[21474837]), stopped(24));
     tally.trial("A with -21474836", prints(&[-21474836]), fine("-2147483600"));
-    tally.trial("A with -21474837", prints(&[-21474837]), stopped);
+    tally.trial("A with -21474837", prints(&[-21474837]), stopped(29));
+    let made = |setting: i32| told(make(&a, &[setting], FUEL, &Lent::AMPLE));
+    tally.trial("A, made for 21474837", made(21474837), failure(24, 2, 6));
+    tally.trial("A, made for -21474837", made(-21474837), failure(29, 2, 6));
+    let bare = |setting: i32| told(bare_run(&a, &[setting], FUEL, &Lent::AMPLE));
+    tally.trial("A, bare run for 21474837", bare(21474837), failure(24, 2, 6));
+    tally.trial("A, bare run for -21474837", bare(-21474837), failure(29, 2, 6));
 
     let fuelled = |fuel| told(make(&a, &[40], fuel, &Lent::AMPLE));
     tally.trial("A, fuel 6", fuelled(6), success(6, "(< i1 4000)"));
     tally.trial("A, fuel 5", fuelled(5), failure(22, 1, 5));
     tally.trial("A, fuel 0", fuelled(0), failure(22, 5, 0));
     tally.trial("A, fuel 16,001", fuelled(16_001), failure(13, 0, 0));
+}
 
+/// The bench trials besides those of input A.
+fn bench_trials(tally: &mut Tally) {
     let early = |operation: &str| {
         let text = format!("(script (types) (inputs) (lift {operation}))");
         told(make(&file(&text), &[], FUEL, &Lent::AMPLE))
@@ -238,6 +254,31 @@ fn part_trials(tally: &mut Tally) {
     tally.trial("unfolding to the end of fuel", looping(0), failure(22, 4, 4000));
     tally.trial("fuel and depth at once", looping(1), failure(22, 0, 4000));
     tally.trial("unfolding too deep", looping(2), failure(23, 0, 3999));
+}
+
+/// How often each number of a reply without a result occurs.
+pub fn often(numbers: impl Iterator<Item = u8>) -> BTreeMap<u8, usize> {
+    let mut often = BTreeMap::new();
+    numbers.for_each(|number| *often.entry(number).or_insert(0) += 1);
+    often
+}
+
+/// Whether the wanted replies occur, no others, and those at the ends of the range many times.
+pub fn replies_trial(tally: &mut Tally, name: &str, often: &BTreeMap<u8, usize>, wanted: &[u8]) {
+    let numbers: Vec<u8> = often.keys().copied().collect();
+    tally.trial(name, numbers.as_slice(), wanted);
+    for number in [24, 29] {
+        let many = often.get(&number).is_some_and(|&often| often >= 60);
+        tally.trial(&format!("{name}, {number} many times"), many, true);
+    }
+}
+
+/// Among 5,000 inputs each reply occurs that `benchmake` can give.
+fn reply_trials(tally: &mut Tally) {
+    let replies = (0..5_000).filter_map(|index| answer(&generate::input(1, index), FUEL).err());
+    let often = often(replies.map(|reply| reply.number));
+    let wanted = [1, 2, 3, 4, 5, 6, 7, 8, 9, 10, 11, 12, 22, 23, 24, 25, 26, 29];
+    replies_trial(tally, "replies to inputs", &often, &wanted);
 }
 
 /// Facts that hold of every made script in a corpus.

@@ -4,7 +4,9 @@
 use super::late_numbers::LateNumbers;
 use super::marks::{any_lifts, any_marks};
 use super::sound::{to, Sort, Sound};
-use super::{damaged, ill_typed, maybe_renumber, taken, well_typed, with, Recipe};
+use super::{
+    damaged, ends, ill_typed, maybe_renumber, settings_of, taken, well_typed, with, Recipe,
+};
 use crate::assemble::*;
 use crate::benchmake::{encode_settings, split};
 use crate::random::Random;
@@ -25,6 +27,7 @@ pub const RECIPES: &[Recipe] = &[
     (3, fuel_end),
     (2, both_ends),
     (4, range_end),
+    (7, range_places),
     (6, bad_numbers),
 ];
 
@@ -52,10 +55,15 @@ fn disguised(inputs: Vec<u16>, term: &Term, random: &mut Random) -> Script {
     let mut types = vec![(S, D), (D, D), (S, S), (2, 2)];
     types.truncate(random.below(5));
     let mut script = Script { types, inputs, nodes: lay_out(term) };
-    any_marks(&mut script, random);
-    any_lifts(&mut script, random);
-    maybe_renumber(&mut script, random);
+    disguise(&mut script, random);
     script
+}
+
+/// Any marks, lifts and numbering.
+fn disguise(script: &mut Script, random: &mut Random) {
+    any_marks(script, random);
+    any_lifts(script, random);
+    maybe_renumber(script, random);
 }
 
 fn sound_script(slips: usize, wanted: Option<Sort>, random: &mut Random) -> Script {
@@ -125,13 +133,10 @@ fn cut_short(random: &mut Random) -> Vec<u8> {
 }
 
 /// The finished code of a script for settings, with those settings and a number for each late input; without code, the script.
-fn finished(script: &Script, random: &mut Random) -> Vec<u8> {
-    let numbers = numbers(script.inputs.len(), random);
-    let early = script.inputs.iter().zip(&numbers).filter(|(input, _)| **input == S);
-    let settings: Vec<i32> = early.map(|(_, &number)| number).collect();
-    match specialize(script, &settings, 4_000, &Lent::AMPLE) {
-        Ok(made) => with(&made.script, &numbers),
-        Err(_) => with(script, &numbers),
+fn finished(script: &Script, numbers: &[i32]) -> Vec<u8> {
+    match specialize(script, &settings_of(script, numbers), 4_000, &Lent::AMPLE) {
+        Ok(made) => with(&made.script, numbers),
+        Err(_) => with(script, numbers),
     }
 }
 
@@ -142,14 +147,14 @@ fn finished_numbers(random: &mut Random) -> Vec<u8> {
     let term = LateNumbers::new(random, &inputs).late(size);
     let mut script = Script { types: vec![(D, D)], inputs, nodes: lay_out(&term) };
     maybe_renumber(&mut script, random);
-    finished(&script, random)
+    finished(&script, &numbers(script.inputs.len(), random))
 }
 
 /// Code of any well typed script.
 fn finished_code(random: &mut Random) -> Vec<u8> {
     let input = taken(well_typed::RECIPES, any_turn(random), random);
     match read(split(&input).0) {
-        Ok(script) => finished(&script, random),
+        Ok(script) => finished(&script, &numbers(script.inputs.len(), random)),
         Err(_) => input,
     }
 }
@@ -224,6 +229,17 @@ fn range_end(random: &mut Random) -> Vec<u8> {
     }
     let script = disguised(vec![random.pick(&[S, D]), S], &term, random);
     with(&script, &[number(random), number(random)])
+}
+
+/// Operations at both ends of the range at various places of a script: with any marks, or as finished code.
+fn range_places(random: &mut Random) -> Vec<u8> {
+    let (mut script, numbers) = ends::script(random);
+    if random.chance(30) {
+        maybe_renumber(&mut script, random);
+        return finished(&script, &numbers);
+    }
+    disguise(&mut script, random);
+    with(&script, &numbers)
 }
 
 /// Numbers missing, too many, for the early inputs alone, cut or wrongly marked.

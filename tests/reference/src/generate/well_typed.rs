@@ -2,7 +2,7 @@
 
 use super::builder::Builder;
 use super::shapes::*;
-use super::{maybe_renumber, with, with_settings, Recipe};
+use super::{ends, maybe_renumber, settings_of, with, with_settings, Recipe};
 use crate::assemble::*;
 use crate::random::Random;
 use crate::script::*;
@@ -14,6 +14,7 @@ pub const RECIPES: &[Recipe] = &[
     (3, power),
     (3, arithmetic),
     (3, range_ends),
+    (7, range_places),
     (4, doubled_code),
     (3, doubled_by_recursion),
     (4, tall_code),
@@ -113,6 +114,13 @@ pub fn range_ends(random: &mut Random) -> Vec<u8> {
     let settings = if settings.len() == 2 { settings } else { vec![end as i32, 1] };
     let term = lift(operation(operator, variable(0), variable(1)));
     finish_with(untyped(&[S, S], &term), &settings, random)
+}
+
+/// Such operations at various places of a script.
+fn range_places(random: &mut Random) -> Vec<u8> {
+    let (script, numbers) = ends::script(random);
+    let settings = settings_of(&script, &numbers);
+    finish_with(script, &settings, random)
 }
 
 /// Nested copies of one piece of code: sizes around 4,096 and far beyond.
