@@ -1,6 +1,8 @@
 //! Times the proved library against the second implementation and versions tuned by hand, on the same inputs in the same run, and
 //! asserts that all reply alike. Prints a table, and writes the growth of cost to an SVG file.
 
+#[path = "../tests/reference/src/arithmetic.rs"]
+mod arithmetic;
 #[path = "../tests/reference/src/assemble.rs"]
 #[allow(dead_code)]
 mod assemble;
