@@ -63,7 +63,7 @@ fn difference(wanted: &(Answer, Memory), answer: Answer, after: &Memory) -> Opti
 /// What has been tried: how often each entry gave each number, and how often a call was odd in each way.
 #[derive(Default)]
 struct Tally {
-    numbers: [[usize; 29]; ENTRIES.len()],
+    numbers: [BTreeMap<usize, usize>; ENTRIES.len()],
     oddities: BTreeMap<&'static str, usize>,
     differences: usize,
 }
@@ -78,7 +78,7 @@ impl Tally {
         self.tell(index, entry, "header", difference(&wanted, answer, &after).or(margin));
         let (answer, after) = by_wrapper(entry, &memory);
         self.tell(index, entry, "wrapper", difference(&wanted, answer, &after));
-        self.numbers[entry as usize][wanted.0.number as usize] += 1;
+        *self.numbers[entry as usize].entry(wanted.0.number as usize).or_default() += 1;
         for (name, holds) in oddities(entry, &memory) {
             *self.oddities.entry(name).or_default() += usize::from(holds);
         }
@@ -96,12 +96,11 @@ impl Tally {
         let mut missing = self.oddities.values().filter(|&&often| often == 0).count();
         let mut tried = 0;
         for entry in ENTRIES {
-            let given = self.numbers[entry as usize];
-            let calls: usize = given.iter().sum();
-            let often = |&number: &usize| format!("{number}: {}", given[number]);
-            let line: Vec<String> = numbers(entry).iter().map(often).collect();
+            let given = &self.numbers[entry as usize];
+            let calls: usize = given.values().sum();
+            let line: Vec<String> = given.iter().map(|(number, often)| format!("{number}: {often}")).collect();
             println!("{entry:?}: {calls} calls ({})", line.join(", "));
-            missing += numbers(entry).iter().filter(|&&number| given[number] == 0).count();
+            missing += numbers(entry).iter().filter(|number| !given.contains_key(number)).count();
             tried += calls;
         }
         for (name, often) in &self.oddities {
