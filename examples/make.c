@@ -1,6 +1,6 @@
 /* Makes a script for one model's settings: make SCRIPT MADE [SETTING..]. It prints the reply, in words too
- * where a result leaves the range, and the listing of the code, and writes the made file. Exit status: 0 with code, 1 without, 2 where a word or
- * a file is at fault. */
+ * where a result leaves the range, and the listing of the code, and writes the made file. Exit status: 0
+ * with code, 1 without, 2 where a word or a file is at fault. */
 #include <ctype.h>
 #include <errno.h>
 #include <stdio.h>

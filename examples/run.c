@@ -1,6 +1,6 @@
 /* Runs a script on a number for every input, in order: run SCRIPT [NUMBER..]. It prints the reply, in words
- * too where a result leaves the range, and the result, a number or "a function". Exit status: 0 with a result, 1 without, 2 where a word or a file is at
- * fault. */
+ * too where a result leaves the range, and the result, a number or "a function". Exit status: 0 with a
+ * result, 1 without, 2 where a word or a file is at fault. */
 #include <ctype.h>
 #include <errno.h>
 #include <stdio.h>

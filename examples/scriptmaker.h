@@ -40,7 +40,7 @@ enum scriptmaker_number {
     SCRIPTMAKER_NOT_USED_ONCE = 6,     /* a node used never or twice [node] */
     SCRIPTMAKER_TREE_TOO_HIGH = 7,     /* [node] */
     SCRIPTMAKER_UNBOUND_VARIABLE = 8,  /* [node] */
-    SCRIPTMAKER_WRONG_MARKS = 9,       /* marks that do not fit [node] */
+    SCRIPTMAKER_NODE_AT_FAULT = 9,     /* marks that do not fit [node] */
     SCRIPTMAKER_TYPE_NOT_LISTED = 10,  /* of a function [node] */
     SCRIPTMAKER_ROOT_NOT_LATE = 11,    /* [root] */
     SCRIPTMAKER_WRONG_SETTINGS = 12,   /* not as many settings, or numbers, as are wanted [0] */

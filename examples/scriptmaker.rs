@@ -11,55 +11,55 @@ pub const MAX_FILE: usize = 8 + 6 * MAX_TYPES + 4 * MAX_INPUTS + 13 * MAX_NODES;
 /// No listing is longer.
 pub const MAX_LISTING: usize = 65536;
 
-/// The numbers of replies; in brackets the place that comes with each.
+/// The numbers of replies.
 pub mod number {
-    /// [0]
+    /// The place is 0.
     pub const SUCCESS: u8 = 0;
-    /// Not the length that the counts give [length]; tables below the counts [0].
+    /// Not the length that the counts give; the place is the length. Tables below the counts, with place 0.
     pub const WRONG_LENGTH: u8 = 1;
-    /// [offset]
+    /// At its offset.
     pub const WRONG_MARK: u8 = 2;
-    /// Outside its limit [0].
+    /// Outside its limit; the place is 0.
     pub const WRONG_COUNT: u8 = 3;
-    /// A bad type or input [offset].
+    /// A bad type or input, at its offset.
     pub const BAD_RECORD: u8 = 4;
-    /// [offset]
+    /// At its offset.
     pub const BAD_NODE: u8 = 5;
-    /// A node used never or twice [node].
+    /// A node used never or twice.
     pub const NOT_USED_ONCE: u8 = 6;
-    /// [node]
+    /// At the node.
     pub const TREE_TOO_HIGH: u8 = 7;
-    /// [node]
+    /// At its node.
     pub const UNBOUND_VARIABLE: u8 = 8;
-    /// Marks that do not fit [node].
-    pub const WRONG_MARKS: u8 = 9;
-    /// Of a function [node].
+    /// Marks that do not fit, at the node.
+    pub const NODE_AT_FAULT: u8 = 9;
+    /// Of the function at the node.
     pub const TYPE_NOT_LISTED: u8 = 10;
-    /// [root]
+    /// At the root.
     pub const ROOT_NOT_LATE: u8 = 11;
-    /// Not as many settings, or numbers, as are wanted [0].
+    /// Not as many settings, or numbers, as are wanted; the place is 0.
     pub const WRONG_SETTINGS: u8 = 12;
-    /// [0]
+    /// The place is 0.
     pub const TOO_MUCH_FUEL: u8 = 13;
-    /// [0]
+    /// The place is 0.
     pub const STORE_TOO_SHORT: u8 = 20;
-    /// [0]
+    /// The place is 0.
     pub const OUTPUT_TOO_SHORT: u8 = 21;
-    /// [node to be visited, or the application that unfolds]
+    /// At the node to be visited, or the application that unfolds.
     pub const FUEL_SPENT: u8 = 22;
-    /// [the same]
+    /// At the node to be visited, or the application that unfolds.
     pub const TOO_DEEP: u8 = 23;
-    /// A result above 2147483647 [operation].
+    /// A result above 2147483647, at the operation.
     pub const ABOVE_RANGE: u8 = 24;
-    /// [operation]
+    /// At the operation.
     pub const DIVISOR_ZERO: u8 = 25;
-    /// For a script file [0].
+    /// For a script file; the place is 0.
     pub const CODE_TOO_LARGE: u8 = 26;
-    /// Marks that do not fit, met by a bare run [node].
+    /// Marks that do not fit, met by a bare run at the node.
     pub const CLASH: u8 = 27;
-    /// A number as a function or a function as a number, in a plain run [node].
+    /// A number used as a function or a function as a number, in a plain run, at the node.
     pub const PLAIN_CLASH: u8 = 28;
-    /// A result below -2147483648 [operation].
+    /// A result below -2147483648, at the operation.
     pub const BELOW_RANGE: u8 = 29;
 }
 
