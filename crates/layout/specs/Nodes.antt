@@ -2,9 +2,10 @@
 -- uses. A `Word` is what stands first in a node's text, no machine word. That this is the text of the node's term is `tree-text` of
 -- proofs/Trees.antt. Assumes nothing.
 use Prim.Native.Nat.{ℕ, _-_}
+use mathlib.Core.Bool.{Bool, true, false}
 use mathlib.Core.List.{List, [], _∷_, _++_}
 use lib.IntN.{ℤ}
-use Rattle.script.specs.Columns.{nodesIn}
+use lib.ListN.{getD}
 use Rattle.lambdamix.specs.declared.Use.{Use}
 use Rattle.lambdamix.specs.declared.Use.the-variants as Use
 use Rattle.lambdamix.specs.Falling.{falling, below}
@@ -13,9 +14,14 @@ use Rattle.lambdamix.specs.Script.{dynamicFunction, dynamicApplication, dynamic
 use Rattle.lambdamix.specs.Term.{applying, fixing, choosing, operatorOf}
 use Rattle.lambdamix.specs.Text.{ascii, digits, decimal}
 use Rattle.lambdamix.specs.Listing.{nameText, operatorText, formerText}
-use Rattle.script.specs.Kinds.{useOf}
-use Rattle.layout.specs.declared.Word.{Word}
-use Rattle.layout.specs.declared.Word.the-variants.{Value, Bare, Lam, App, Fix, If, Sign}
+use Rattle.lambdamix.specs.Code.{node}
+use Rattle.script.specs.declared.Row.{Row}
+use Rattle.script.specs.KindRows.{rowAt}
+use Rattle.script.specs.Words.{wordKind, wordA, wordB, wordC, wordValue}
+
+-- what stands first in the text of a node: the constant's value, nothing (a variable is its name, a lift its child), or, in brackets, the word of its step
+pub data Word : Type 0 where
+  Value Bare Lam App Fix If Sign : Word
 
 -- static and dynamic steps have the same words
 unfoldable pub stepWord : Step → Word
@@ -46,46 +52,58 @@ wordText Fix c z = formerText fixing
 wordText If c z = formerText choosing
 wordText Sign c z = operatorText (operatorOf c)
 
--- a bracket or a space, where the word stands in brackets
-abbrev pub framed : Word → ℕ → List ℕ
-framed Value b = []
-framed Bare b = []
-framed Lam b = b ∷ []
-framed App b = b ∷ []
-framed Fix b = b ∷ []
-framed If b = b ∷ []
-framed Sign b = b ∷ []
+-- whether the text of a node stands in brackets, and each field of it behind a space
+unfoldable pub inBrackets : Word → Bool
+inBrackets Value = false
+inBrackets Bare = false
+inBrackets Lam = true
+inBrackets App = true
+inBrackets Fix = true
+inBrackets If = true
+inBrackets Sign = true
+
+-- a bracket or a space, where they stand
+unfoldable pub framed : Bool → ℕ → List ℕ
+framed true b = b ∷ []
+framed false b = []
 
 -- a field by its use, given the count of inputs and the texts of children
-unfoldable pub fieldText : ℕ → (ℕ → List ℕ) → Word → Use → ℕ → List ℕ
-fieldText n self w Use.Nothing f = []
-fieldText n self w Use.Name f = framed w 32 ++ nameText n f
-fieldText n self w Use.Binder f = framed w 32 ++ nameText n f
-fieldText n self w Use.Child f = framed w 32 ++ self f
-fieldText n self w Use.ParameterType f = []
-fieldText n self w Use.Operation f = []
+unfoldable pub fieldText : ℕ → (ℕ → List ℕ) → Bool → Use → ℕ → List ℕ
+fieldText n self s Use.Nothing f = []
+fieldText n self s Use.Name f = framed s 32 ++ nameText n f
+fieldText n self s Use.Binder f = framed s 32 ++ nameText n f
+fieldText n self s Use.Child f = framed s 32 ++ self f
+fieldText n self s Use.ParameterType f = []
+fieldText n self s Use.Operation f = []
+
+-- the fields by a row of the table
+abbrev pub fieldsText : ℕ → (ℕ → List ℕ) → Bool → Row → ℕ → ℕ → ℕ → List ℕ
+fieldsText n self s r a b c = fieldText n self s (r .0) a ++ fieldText n self s (r .1) b ++ fieldText n self s (r .2) c
+
+-- a word, brackets and fields: the text of a node by its word and its row
+abbrev pub rowText : ℕ → (ℕ → List ℕ) → Word → Row → ℕ → ℕ → ℕ → ℤ → List ℕ
+rowText n self w r a b c z =
+    (framed (inBrackets w) 40 ++ wordText w c z) ++ (fieldsText n self (inBrackets w) r a b c ++ framed (inBrackets w) 41)
 
 unfoldable pub nodeText : ℕ → (ℕ → List ℕ) → Node → List ℕ
-nodeText n self nd =
-    framed (wordOf (nd .kind)) 40
-    ++ wordText (wordOf (nd .kind)) (nd .c) (nd .value)
-    ++ fieldText n self (wordOf (nd .kind)) (useOf (nd .kind) 0) (nd .a)
-    ++ fieldText n self (wordOf (nd .kind)) (useOf (nd .kind) 1) (nd .b)
-    ++ fieldText n self (wordOf (nd .kind)) (useOf (nd .kind) 2) (nd .c)
-    ++ framed (wordOf (nd .kind)) 41
+nodeText n self nd = rowText n self (wordOf (nd .kind)) (rowAt (nd .kind)) (nd .a) (nd .b) (nd .c) (nd .value)
 
 -- the text of each node of a table
 unfoldable pub nodesText : ℕ → (ℕ → Node) → ℕ → List ℕ
 nodesText n nodes = falling (digits 0) (λ self i. nodeText n self (nodes i))
 
--- the text of a node that five columns hold, given the count of inputs
-abbrev pub columnText : ℕ → List ℕ → List ℕ → List ℕ → List ℕ → List ℤ → ℕ → List ℕ
-columnText n kinds a b c values = nodesText n (nodesIn kinds a b c values)
+-- the node that a word holds; the fields of a constant's word are parts of its value, and have no use
+abbrev pub wordNode : ℕ → Node
+wordNode w = node (wordKind w) (wordA w) (wordB w) (wordC w) (wordValue w)
+
+-- the text of a node in words, given the count of inputs
+abbrev pub wordsText : ℕ → List ℕ → ℕ → List ℕ
+wordsText n ws = nodesText n (λ i. wordNode (getD ws i 0))
 
 -- and that of a child of node i, which stands below it
-abbrev pub childText : ℕ → List ℕ → List ℕ → List ℕ → List ℕ → List ℤ → ℕ → ℕ → List ℕ
-childText n kinds a b c values i = below i (digits 0) (columnText n kinds a b c values)
+abbrev pub childText : ℕ → List ℕ → ℕ → ℕ → List ℕ
+childText n ws i = below i (digits 0) (wordsText n ws)
 
 -- and that of the last of some nodes, with a newline
-abbrev pub wholeText : ℕ → ℕ → List ℕ → List ℕ → List ℕ → List ℕ → List ℤ → List ℕ
-wholeText n nodes kinds a b c values = columnText n kinds a b c values (nodes - 1) ++ (10 ∷ [])
+abbrev pub wholeText : ℕ → ℕ → List ℕ → List ℕ
+wholeText n nodes ws = wordsText n ws (nodes - 1) ++ (10 ∷ [])

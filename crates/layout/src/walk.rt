@@ -1,184 +1,176 @@
-// The listing of a script: a walk of its tree by recursion on falling node numbers. Every kind is written in the same way: a
-// bracket, its word, its fields by the table of uses, a bracket; kinds without a word stand bare. Each function is lent what
-// remains of the output from its place on, writes its text at the front of that, and gives the text's length.
-use crate::Word;
-use crate::words;
+// The listing of a script whose nodes stand in words: a walk of its tree by recursion on falling node numbers. What stands first goes by the kind; what a field
+// holds is told by the table's row of the kind that an arm names, so that the compiler folds the read. Each function is lent what remains of the output from
+// its place on, or writes from a place on into what remains, and gives the next place.
+use crate::words::name_at;
+use crate::words::put_sign;
 use lambdamix::Use;
 use script::Counts;
 use script::Name;
 use script::NodeNumber;
 use script::Row;
-use script::column;
-use script::kinds::own_row;
+use script::kinds::row_of;
 use script::place::root;
-use text::Part;
+use script::word::field_a;
+use script::word::field_b;
+use script::word::field_c;
+use script::word::kind;
+use script::word::node_word;
+use script::word::value;
+use text::decimals::decimal_at;
 use text::parts::further;
 use text::parts::least;
-use text::parts::part_at;
-use text::parts::put_part;
-ghost use mathlib.Core.List.{_++_};
-ghost use Rattle.lambdamix.specs.Listing.{nameText};
+use text::parts::letter_at;
+use text::parts::text_at;
+ghost use mathlib.Core.Bool.{true, false};
+ghost use mathlib.Core.List.{_++_, [], _∷_};
+ghost use Rattle.script.specs.Words.{wordA, wordB, wordC};
 ghost use Rattle.text.specs.Places.{Placed};
-ghost use Rattle.layout.specs.Nodes.{framed, wordText, fieldText, columnText, childText, wholeText};
-
-// A bracket or a space, for a word in brackets.
-fn put_frame(out: &mut [u8], w: Word, letter: u8) -> usize
-    ensures { λ r. ⌜ Placed (framed w letter) 0 (now (out .entry)) (now (out .exit)) r ⌝ }
-{
-    put_part(out, words::frame(w, letter))
-}
-
-// What stands first in a node's text, behind a bracket.
-fn put_head(out: &mut [u8], w: Word, c: u16, value: i32) -> usize
-    ensures { λ r. ⌜ Placed (framed w 40 ++ wordText w c value) 0 (now (out .entry)) (now (out .exit)) r ⌝ }
-{
-    let open = put_frame(out, w, b'(');
-    part_at(out, open, words::word(w, c, value))
-}
-
-// A name, behind a space in brackets.
-fn put_name(out: &mut [u8], w: Word, inputs: u16, x: Name) -> usize
-    ensures { λ r. ⌜ Placed (framed w 32 ++ nameText inputs (x .0)) 0 (now (out .entry)) (now (out .exit)) r ⌝ }
-{
-    let next = put_frame(out, w, b' ');
-    part_at(out, next, words::name(inputs, x))
-}
+ghost use Rattle.layout.specs.Nodes.{fieldText, fieldsText, wordsText, childText, wholeText};
 
 // The text of node i.
-fn node(
-    kinds: &[u8],
-    a: &[u16],
-    b: &[u16],
-    c: &[u16],
-    values: &[i32],
-    inputs: u16,
-    i: NodeNumber,
-    out: &mut [u8],
-) -> usize
-    ensures { λ r. ⌜ Placed (columnText inputs (now (kinds .entry)) (now (a .entry)) (now (b .entry)) (now (c .entry)) (now (values .entry)) (i .0)) 0 (now (out .entry)) (now (out .exit)) r ⌝ }
+fn node(nodes: &&[u64], inputs: u16, i: NodeNumber, out: &mut [u8]) -> usize
+    ensures { λ r. ⌜ Placed (wordsText inputs (now (now (nodes .entry))) (i .0)) 0 (now (out .entry)) (now (out .exit)) r ⌝ }
 {
-    let n = i.0 as usize;
-    let kind = column::at8(kinds, n);
-    let w = words::word_of(kind);
-    let x = column::at16(a, n);
-    let y = column::at16(b, n);
-    let z = column::at16(c, n);
-    let uses = own_row(kind as u16);
-    let u = uses.0;
-    let v = uses.1;
-    let t = uses.2;
-    let head = put_head(out, w, z, column::at32(values, n));
-    let one = field_at(kinds, a, b, c, values, inputs, i, w, u, x, out, head);
-    let two = field_at(kinds, a, b, c, values, inputs, i, w, v, y, out, one);
-    let three = field_at(kinds, a, b, c, values, inputs, i, w, t, z, out, two);
-    part_at(out, three, words::frame(w, b')'))
+    let w = node_word(*nodes, i);
+    match kind(w) {
+        0 => decimal_at(out, 0, value(w)),
+        1 => bare(nodes, inputs, i, w, row_of(1), out),
+        2 => bare(nodes, inputs, i, w, row_of(2), out),
+        3 => {
+            let head = text_at(out, 0, b"(lam");
+            group(nodes, inputs, i, w, row_of(3), out, head)
+        }
+        4 => {
+            let head = text_at(out, 0, b"(app");
+            group(nodes, inputs, i, w, row_of(4), out, head)
+        }
+        5 => {
+            let head = text_at(out, 0, b"(fix");
+            group(nodes, inputs, i, w, row_of(5), out, head)
+        }
+        6 => {
+            let head = text_at(out, 0, b"(if");
+            group(nodes, inputs, i, w, row_of(6), out, head)
+        }
+        7 => {
+            let head = put_sign(out, field_c(w));
+            group(nodes, inputs, i, w, row_of(7), out, head)
+        }
+        8 => {
+            let head = text_at(out, 0, b"(lam");
+            group(nodes, inputs, i, w, row_of(8), out, head)
+        }
+        9 => {
+            let head = text_at(out, 0, b"(app");
+            group(nodes, inputs, i, w, row_of(9), out, head)
+        }
+        10 => {
+            let head = text_at(out, 0, b"(fix");
+            group(nodes, inputs, i, w, row_of(10), out, head)
+        }
+        11 => {
+            let head = text_at(out, 0, b"(if");
+            group(nodes, inputs, i, w, row_of(11), out, head)
+        }
+        12 => {
+            let head = put_sign(out, field_c(w));
+            group(nodes, inputs, i, w, row_of(12), out, head)
+        }
+        _ => decimal_at(out, 0, value(w)),
+    }
 }
 
-// A field of node i by its use, in what remains from a place on; gives the next place.
-fn field_at(
-    kinds: &[u8],
-    a: &[u16],
-    b: &[u16],
-    c: &[u16],
-    values: &[i32],
-    inputs: u16,
-    i: NodeNumber,
-    w: Word,
-    u: Use,
-    f: u16,
-    out: &mut [u8],
-    at: usize,
-) -> usize
-    ensures { λ r. ⌜ Placed (fieldText inputs (childText inputs (now (kinds .entry)) (now (a .entry)) (now (b .entry)) (now (c .entry)) (now (values .entry)) (i .0)) w u f) at (now (out .entry)) (now (out .exit)) r ⌝ }
+// The text of a node i without a word, in word w: its first field by its use.
+fn bare(nodes: &&[u64], inputs: u16, i: NodeNumber, w: u64, row: Row, out: &mut [u8]) -> usize
+    ensures { λ r. ⌜ Placed (fieldText inputs (childText inputs (now (now (nodes .entry))) (i .0)) false (row .0) (wordA w)) 0 (now (out .entry)) (now (out .exit)) r ⌝ }
 {
-    let from = least(at, out.len());
-    let n = field(kinds, a, b, c, values, inputs, i, w, u, f, &mut out[from..]);
-    further(at, n)
-}
-
-// A field of node i by its use.
-fn field(
-    kinds: &[u8],
-    a: &[u16],
-    b: &[u16],
-    c: &[u16],
-    values: &[i32],
-    inputs: u16,
-    i: NodeNumber,
-    w: Word,
-    u: Use,
-    f: u16,
-    out: &mut [u8],
-) -> usize
-    ensures { λ r. ⌜ Placed (fieldText inputs (childText inputs (now (kinds .entry)) (now (a .entry)) (now (b .entry)) (now (c .entry)) (now (values .entry)) (i .0)) w u f) 0 (now (out .entry)) (now (out .exit)) r ⌝ }
-{
+    let u = row.0;
+    let x = field_a(w);
     match u {
         Use::Nothing => 0,
-        Use::Name => put_name(out, w, inputs, Name(f)),
-        Use::Binder => put_name(out, w, inputs, Name(f)),
-        Use::Child => {
-            let next = put_frame(out, w, b' ');
-            child_at(kinds, a, b, c, values, inputs, i, NodeNumber(f), out, next)
-        }
+        Use::Name => name_at(out, 0, inputs, Name(x)),
+        Use::Binder => name_at(out, 0, inputs, Name(x)),
+        Use::Child => child_at(nodes, inputs, i, NodeNumber(x), out, 0),
         Use::ParameterType => 0,
         Use::Operation => 0,
     }
 }
 
-// The text of a child, in what remains from a place on; gives the next place.
+// The fields of node i, in word w, behind its word and up to the closing bracket; gives the next place.
+fn group(
+    nodes: &&[u64],
+    inputs: u16,
+    i: NodeNumber,
+    w: u64,
+    row: Row,
+    out: &mut [u8],
+    at: usize,
+) -> usize
+    ensures { λ r. ⌜ Placed (fieldsText inputs (childText inputs (now (now (nodes .entry))) (i .0)) true row (wordA w) (wordB w) (wordC w) ++ (41 ∷ [])) at (now (out .entry)) (now (out .exit)) r ⌝ }
+{
+    let u = row.0;
+    let v = row.1;
+    let t = row.2;
+    let one = spaced_at(nodes, inputs, i, u, field_a(w), out, at);
+    let two = spaced_at(nodes, inputs, i, v, field_b(w), out, one);
+    let three = spaced_at(nodes, inputs, i, t, field_c(w), out, two);
+    letter_at(out, three, b')')
+}
+
+// A field of node i by its use, behind a space; gives the next place.
+fn spaced_at(
+    nodes: &&[u64],
+    inputs: u16,
+    i: NodeNumber,
+    u: Use,
+    f: u16,
+    out: &mut [u8],
+    at: usize,
+) -> usize
+    ensures { λ r. ⌜ Placed (fieldText inputs (childText inputs (now (now (nodes .entry))) (i .0)) true u f) at (now (out .entry)) (now (out .exit)) r ⌝ }
+{
+    match u {
+        Use::Nothing => at,
+        Use::Name => {
+            let next = letter_at(out, at, b' ');
+            name_at(out, next, inputs, Name(f))
+        }
+        Use::Binder => {
+            let next = letter_at(out, at, b' ');
+            name_at(out, next, inputs, Name(f))
+        }
+        Use::Child => {
+            let next = letter_at(out, at, b' ');
+            child_at(nodes, inputs, i, NodeNumber(f), out, next)
+        }
+        Use::ParameterType => at,
+        Use::Operation => at,
+    }
+}
+
+// A child of node i, whose number is below, in what remains from a place on; gives the next place.
 fn child_at(
-    kinds: &[u8],
-    a: &[u16],
-    b: &[u16],
-    c: &[u16],
-    values: &[i32],
+    nodes: &&[u64],
     inputs: u16,
     i: NodeNumber,
     m: NodeNumber,
     out: &mut [u8],
     at: usize,
 ) -> usize
-    ensures { λ r. ⌜ Placed (childText inputs (now (kinds .entry)) (now (a .entry)) (now (b .entry)) (now (c .entry)) (now (values .entry)) (i .0) (m .0)) at (now (out .entry)) (now (out .exit)) r ⌝ }
+    ensures { λ r. ⌜ Placed (childText inputs (now (now (nodes .entry))) (i .0) (m .0)) at (now (out .entry)) (now (out .exit)) r ⌝ }
 {
-    let from = least(at, out.len());
-    let n = child(kinds, a, b, c, values, inputs, i, m, &mut out[from..]);
-    further(at, n)
-}
-
-// The text of a child, whose number is below its parent's.
-fn child(
-    kinds: &[u8],
-    a: &[u16],
-    b: &[u16],
-    c: &[u16],
-    values: &[i32],
-    inputs: u16,
-    i: NodeNumber,
-    m: NodeNumber,
-    out: &mut [u8],
-) -> usize
-    ensures { λ r. ⌜ Placed (childText inputs (now (kinds .entry)) (now (a .entry)) (now (b .entry)) (now (c .entry)) (now (values .entry)) (i .0) (m .0)) 0 (now (out .entry)) (now (out .exit)) r ⌝ }
-{
-    let below = m.0;
-    let above = i.0;
-    if below < above {
-        return node(kinds, a, b, c, values, inputs, m, out);
+    if m.0 < i.0 {
+        let from = least(at, out.len());
+        let n = node(nodes, inputs, m, &mut out[from..]);
+        return further(at, n);
     }
-    put_part(out, Part::Number(0))
+    letter_at(out, at, b'0')
 }
 
 // The text of the root, and a newline.
-pub fn whole(
-    n: Counts,
-    kinds: &[u8],
-    a: &[u16],
-    b: &[u16],
-    c: &[u16],
-    values: &[i32],
-    out: &mut [u8],
-) -> usize
-    ensures { λ r. ⌜ Placed (wholeText (n .inputs) (n .nodes) (now (kinds .entry)) (now (a .entry)) (now (b .entry)) (now (c .entry)) (now (values .entry))) 0 (now (out .entry)) (now (out .exit)) r ⌝ }
+pub fn whole(n: Counts, nodes: &[u64], out: &mut [u8]) -> usize
+    ensures { λ r. ⌜ Placed (wholeText (n .inputs) (n .nodes) (now (nodes .entry))) 0 (now (out .entry)) (now (out .exit)) r ⌝ }
 {
-    let next = node(kinds, a, b, c, values, n.inputs, root(n.nodes), out);
-    part_at(out, next, Part::Letter(b'\n'))
+    let next = node(&nodes, n.inputs, root(n.nodes), out);
+    letter_at(out, next, b'\n')
 }

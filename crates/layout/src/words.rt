@@ -1,42 +1,17 @@
-// The words of the kinds, names and signed decimals, as parts of a listing. Static and dynamic kinds have the same words.
-use crate::Word;
+// The signs of operations and the names, as they stand in a listing.
 use script::Name;
-use text::Part;
-use text::parts::decimal;
+use text::decimals::put_prefixed;
+use text::parts::further;
+use text::parts::least;
+use text::parts::letter_at;
+use text::parts::put_letter;
 ghost use mathlib.Core.Path.{_≡_};
 ghost use mathlib.Core.List.{[], _∷_};
 ghost use Rattle.lambdamix.specs.Term.{operatorOf};
 ghost use Rattle.lambdamix.specs.Listing.{nameText, operatorText};
-ghost use Rattle.text.specs.Parts.{partText};
-ghost use Rattle.layout.specs.Nodes.{wordOf, wordText, framed};
-
-const WORDS: [Word; 13] = [
-    Word::Value,
-    Word::Bare,
-    Word::Bare,
-    Word::Lam,
-    Word::App,
-    Word::Fix,
-    Word::If,
-    Word::Sign,
-    Word::Lam,
-    Word::App,
-    Word::Fix,
-    Word::If,
-    Word::Sign,
-];
+ghost use Rattle.text.specs.Places.{Put, Placed};
 
 const SIGNS: [u8; 6] = [b'+', b'-', b'*', b'/', b'=', b'<'];
-
-pub(crate) fn word_of(kind: u8) -> Word
-    ensures { λ r. ⌜ r ≡ wordOf kind ⌝ }
-{
-    let k = kind as usize;
-    if 13 <= k {
-        return Word::Value;
-    }
-    WORDS[k]
-}
 
 // The sign of an operator; that of the first past the last.
 fn sign(operator: u16) -> u8
@@ -49,43 +24,32 @@ fn sign(operator: u16) -> u8
     SIGNS[o]
 }
 
-// What stands first in the text of a node of field c and a value.
-pub(crate) fn word(w: Word, c: u16, value: i32) -> Part
-    ensures { λ r. ⌜ partText r ≡ wordText w c value ⌝ }
+// A bracket and the sign of an operator.
+pub(crate) fn put_sign(out: &mut [u8], operator: u16) -> usize
+    ensures { λ r. ⌜ Placed (40 ∷ operatorText (operatorOf operator)) 0 (now (out .entry)) (now (out .exit)) r ⌝ }
 {
-    match w {
-        Word::Value => decimal(value),
-        Word::Bare => Part::Nothing,
-        Word::Lam => Part::Lam,
-        Word::App => Part::App,
-        Word::Fix => Part::Fix,
-        Word::If => Part::If,
-        Word::Sign => Part::Letter(sign(c)),
-    }
-}
-
-// A bracket or a space, where the word stands in brackets.
-pub(crate) fn frame(w: Word, letter: u8) -> Part
-    ensures { λ r. ⌜ partText r ≡ framed w letter ⌝ }
-{
-    match w {
-        Word::Value => Part::Nothing,
-        Word::Bare => Part::Nothing,
-        Word::Lam => Part::Letter(letter),
-        Word::App => Part::Letter(letter),
-        Word::Fix => Part::Letter(letter),
-        Word::If => Part::Letter(letter),
-        Word::Sign => Part::Letter(letter),
-    }
+    let open = put_letter(out, b'(');
+    letter_at(out, open, sign(operator))
 }
 
 // "`i0` an input, `v2` a binder's name".
-pub(crate) fn name(inputs: u16, x: Name) -> Part
-    ensures { λ r. ⌜ partText r ≡ nameText inputs (x .0) ⌝ }
+fn put_name(out: &mut [u8], inputs: u16, x: Name) -> usize
+    ensures { λ r. ⌜ Put (nameText inputs (x .0)) (now (out .entry)) (now (out .exit)) r ⌝ }
 {
     let n = x.0;
     if n < inputs {
-        return Part::Prefixed(b'i', n as u64);
+        let input = put_prefixed(out, b'i', n as u32);
+        return input.length;
     }
-    Part::Prefixed(b'v', n as u64)
+    let bound = put_prefixed(out, b'v', n as u32);
+    bound.length
+}
+
+// A name in what remains from a place on; gives the next place.
+pub(crate) fn name_at(out: &mut [u8], at: usize, inputs: u16, x: Name) -> usize
+    ensures { λ r. ⌜ Placed (nameText inputs (x .0)) at (now (out .entry)) (now (out .exit)) r ⌝ }
+{
+    let from = least(at, out.len());
+    let n = put_name(&mut out[from..], inputs, x);
+    further(at, n)
 }

@@ -172,7 +172,7 @@ unfolding listing ascii root
 listing-bytes s fits e =
     let h : Sound s = sound s e in
     let last : root s < nodeCount s = omega (arith, h .within .some-node) in
-    rw (length-append (termText (inputCount s) (tree s (root s))) (10 ∷ []), tree-text (inputCount s) s (nodeAt s) (λ i l. refl) (root s) last)
+    rw (length-append (termText (inputCount s) (tree s (root s))) (10 ∷ []), tree-text (inputCount s) s (nodeAt s) (λ i l self. refl) (root s) last)
     (omega (arith, root-most s (λ i. length (text s fits h i)) h (node-bytes s fits h)))
 
 -- "no listing passes 65,536 bytes"

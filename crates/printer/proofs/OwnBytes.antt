@@ -14,9 +14,10 @@ use Rattle.lambdamix.specs.Text.{ascii, decimal}
 use Rattle.lambdamix.specs.Term.{operatorOf}
 use Rattle.lambdamix.specs.Listing.{nameBy, nameText, operatorText, formerText}
 use Rattle.script.specs.Kinds.{useOf}
+use Rattle.script.specs.KindRows.{rowAt}
 use Rattle.script.proofs.TableLaws.{row-uses}
 use Rattle.walks.proofs.TreeForms.{All, at-all}
-use Rattle.layout.specs.Nodes.{stepWord, wordOf, wordText, framed, fieldText, nodeText}
+use Rattle.layout.specs.Nodes.{stepWord, wordOf, wordText, inBrackets, framed, fieldText, rowText, nodeText}
 use Rattle.text.proofs.Digits.{digits-within}
 use Rattle.layout.proofs.WordLaws.{sign-text}
 
@@ -42,29 +43,24 @@ sign-bytes : (c : ℕ) → length (operatorText (operatorOf c)) ≡ 1
 sign-bytes c = ap length (sign-text c)
 
 module _ (n : ℕ) (self : ℕ → List ℕ) (nd : Node) where
-  -- the text of the node by a row; its own text is that by the row of its kind
-  abbrev rowText : Row → List ℕ
-  rowText r =
-      let w = stepWord (r .step) in
-      framed w 40
-      ++ wordText w (nd .c) (nd .value)
-      ++ fieldText n self w (getD (r .uses) 0 Nothing) (nd .a)
-      ++ fieldText n self w (getD (r .uses) 1 Nothing) (nd .b)
-      ++ fieldText n self w (getD (r .uses) 2 Nothing) (nd .c)
-      ++ framed w 41
+  -- the text of the node by a row of the table; its own text is that by the row of its kind
+  abbrev byRow : Row → List ℕ
+  byRow r =
+      rowText n self (stepWord (r .step)) (record { 0 = getD (r .uses) 0 Nothing; 1 = getD (r .uses) 1 Nothing; 2 = getD (r .uses) 2 Nothing }) (nd .a)
+      (nd .b) (nd .c) (nd .value)
 
-  own-row : nodeText n self nd ≡ rowText (rowOf nd)
-  unfolding nodeText wordOf stepOf rowOf useOf
+  own-row : nodeText n self nd ≡ byRow (rowOf nd)
+  unfolding nodeText wordOf stepOf rowOf useOf rowAt
   own-row = rw (← row-uses nd)
 
   abbrev RowBytes : Row → Type 0
-  RowBytes r = length (rowText r) ≤ 13 + total (λ m. length (self m)) (childFields (r .uses) (fields nd))
+  RowBytes r = length (byRow r) ≤ 13 + total (λ m. length (self m)) (childFields (r .uses) (fields nd))
 
   -- each row of the table, and the blank one past it
   row-bytes :
       length (nameText n (nd .a)) ≤ 6 → length (decimal (nd .value)) ≤ 11 → length (operatorText (operatorOf (nd .c))) ≡ 1 →
       All RowBytes (blankRow ∷ rows)
-  unfolding All rows total stepWord fields childFields ifChild wordText fieldText formerText ascii
+  unfolding All rows total stepWord fields childFields ifChild wordText inBrackets framed fieldText formerText ascii
   row-bytes x y o = simp length-append (omega (arith, x, y, o))
 
 -- The bytes of a node's text, given those of its children's.

@@ -1,9 +1,9 @@
 // The lines that `benchrun` prints. Each part is written into what remains of the lent output.
 use plainrun::Reply;
 use streams::print::print_pair;
-use text::Part;
-use text::parts::decimal;
-use text::parts::part_at;
+use text::decimals::decimal_at;
+use text::decimals::digits_at;
+use text::parts::letter_at;
 use text::parts::text_at;
 ghost use lib.Dec.{ltb};
 ghost use mathlib.Core.List.{_++_};
@@ -18,8 +18,8 @@ fn print_steps(out: &mut [u8], steps: u16) -> usize
     ensures { λ r. ⌜ Placed (stepsText steps) 0 (now (out .entry)) (now (out .exit)) r ⌝ }
 {
     let one = text_at(out, 0, b"steps ");
-    let two = part_at(out, one, Part::Number(steps as u64));
-    part_at(out, two, Part::Letter(b'\n'))
+    let two = digits_at(out, one, steps as u32);
+    letter_at(out, two, b'\n')
 }
 
 // The number, on its own line behind the steps.
@@ -27,8 +27,8 @@ fn print_number(out: &mut [u8], z: i32, steps: u16) -> usize
     ensures { λ r. ⌜ Placed (stepsText steps ++ decimal z ++ ascii "\n") 0 (now (out .entry)) (now (out .exit)) r ⌝ }
 {
     let one = print_steps(out, steps);
-    let two = part_at(out, one, decimal(z));
-    part_at(out, two, Part::Letter(b'\n'))
+    let two = decimal_at(out, one, z);
+    letter_at(out, two, b'\n')
 }
 
 // "`a function`", on its own line behind the steps.
@@ -37,7 +37,7 @@ fn print_function(out: &mut [u8], steps: u16) -> usize
 {
     let one = print_steps(out, steps);
     let two = text_at(out, one, b"a function");
-    part_at(out, two, Part::Letter(b'\n'))
+    letter_at(out, two, b'\n')
 }
 
 // "`refused N P` alone, or `stopped N P` alone"
@@ -45,9 +45,9 @@ pub(crate) fn print_unfinished(out: &mut [u8], number: u8, place: usize) -> usiz
     ensures { λ r. ⌜ Prints (unfinishedText (ltb number 20) number place) (now (out .entry)) (now (out .exit)) r ⌝ }
 {
     if number < 20 {
-        return print_pair(out, b"refused ", number as u64, b" ", place as u64);
+        return print_pair(out, b"refused ", number as u32, b" ", place as u64);
     }
-    print_pair(out, b"stopped ", number as u64, b" ", place as u64)
+    print_pair(out, b"stopped ", number as u32, b" ", place as u64)
 }
 
 // The lines of a reply.

@@ -1,3 +1,4 @@
 pub mod Digits
+pub mod Rounds
 pub mod Writing
 pub mod Signs

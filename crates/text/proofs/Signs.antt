@@ -1,4 +1,4 @@
--- A number of 32 bits as the code writes it: the sign apart, and its distance from 0, which is found in 64 bits. Assumes nothing.
+-- A number of 32 bits as the code writes it: the sign apart, and its distance from 0, which has 32 bits without a sign and is found in 64. Assumes nothing.
 use Prim.Native.Nat.{ℕ}
 use mathlib.Core.Path.{_≡_, refl, ap, _∙_, subst⁻¹}
 use mathlib.Core.Bool.{true, false, true≢false}
@@ -14,9 +14,9 @@ use borrow.Author.Tests.{ltb-true}
 use Rattle.lambdamix.specs.Text.{digits, decimal}
 use Rattle.lambdamix.proofs.Signed.{held, wide, widens, stays, difference-room}
 
--- what a cast to 64 bits without a sign asks
+-- what a cast to 32 bits without a sign asks
 abbrev pub Unsigned : ℤ → Type 0
-Unsigned z = T (nonNeg z) × Fits w64 (natAbs z)
+Unsigned z = T (nonNeg z) × Fits w32 (natAbs z)
 
 -- the negation in 64 bits
 abbrev pub negated : ℤ → ℤ

@@ -1,14 +1,9 @@
-// Texts that are written into what remains of a lent output, part by part: letters, words, numbers.
+// Texts that are written into what remains of a lent output: letters, words and numbers.
+pub mod decimals;
 pub mod parts;
 
-// A part of a text that is written in one go: nothing, one letter, a word, a number, or a number behind a letter.
-pub enum Part {
-    Nothing,
-    Letter(u8),
-    Lam,
-    App,
-    Fix,
-    If,
-    Number(u64),
-    Prefixed(u8, u64),
+// What the writing of a number tells: how many bytes its text has, and how many rounds all loops took for it.
+pub struct Decimal {
+    pub length: usize,
+    pub rounds: usize,
 }

@@ -1,7 +1,6 @@
 // A line of numbers, or of bytes.
 use libc::STDOUT_FILENO;
-use text::parts::decimal;
-use text::parts::put_part;
+use text::decimals::put_decimal;
 
 pub(crate) fn first(k: usize) {
     io::print_decimal(STDOUT_FILENO, k as u64);
@@ -22,9 +21,9 @@ pub(crate) fn bytes(text: &[u8], n: usize) {
 
 pub(crate) fn signed(z: i32) {
     let mut space = [0u8; 12];
-    let n = put_part(&mut space, decimal(z));
+    let written = put_decimal(&mut space, z);
     io::write_all(STDOUT_FILENO, b" ");
-    bytes(&space, n);
+    bytes(&space, written.length);
 }
 
 // Two hexadecimal digits.

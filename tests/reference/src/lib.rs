@@ -6,6 +6,7 @@ pub mod assemble;
 pub mod benchmake;
 pub mod benchrun;
 pub mod checker;
+pub mod decimal_trials;
 pub mod differ;
 pub mod entries;
 pub mod generate;

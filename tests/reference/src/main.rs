@@ -6,6 +6,7 @@ use std::io::{self, Read, Write};
 use std::path::{Path, PathBuf};
 use std::process::ExitCode;
 
+use reference::decimal_trials::{self, Printed};
 use reference::script::Reply;
 use reference::{assemble, benchmake, benchrun, checker, differ, entries, generate, makes, runs};
 use reference::{script, self_check};
@@ -88,8 +89,10 @@ fn run(words: &[&str]) -> Result<bool, String> {
 /// Writes what a seed gives into one file.
 fn pack_seeded(what: &str, file: &str, seed: u64, count: u64) -> Result<bool, String> {
     match what {
-        "pack" => pack(file, count, |k| generate::input(seed, k)),
-        "pack-readings" => pack(file, count, |k| generate::reading(seed, k)),
+        "pack" => pack_with(file, count, |k| generate::input(seed, k), decimal_trials::inputs()),
+        "pack-readings" => {
+            pack_with(file, count, |k| generate::reading(seed, k), decimal_trials::readings())
+        }
         "pack-scripts" => pack(file, count, |k| {
             let input = generate::input(seed, k);
             // Every fourth keeps the settings behind the script, which makes the length wrong.
@@ -237,6 +240,18 @@ fn pack(file: &str, count: u64, input: impl Fn(u64) -> Vec<u8>) -> Result<bool, 
 /// The same for all of some inputs.
 fn pack_all(file: &str, inputs: &[Vec<u8>]) -> Result<bool, String> {
     pack(file, inputs.len() as u64, |k| inputs[k as usize].clone())
+}
+
+/// The same for seeded inputs, and those of the decimals behind them.
+fn pack_with(
+    file: &str,
+    count: u64,
+    input: impl Fn(u64) -> Vec<u8>,
+    decimals: Vec<Printed>,
+) -> Result<bool, String> {
+    let fixed = decimals.into_iter().map(|printed| printed.input);
+    let inputs: Vec<_> = (0..count).map(input).chain(fixed).collect();
+    pack_all(file, &inputs)
 }
 
 /// The same for the first of some scripts.

@@ -1,9 +1,10 @@
-//! The bench trials, operations at both ends of the range, the power script of
+//! The bench trials, operations at both ends of the range, decimals, the power script of
 //! source document 001, Example 1, trials of the parts, and those of the plain run.
 
 use crate::assemble::assemble;
 use crate::benchmake::{answer, benchmake, encode_settings, FUEL};
 use crate::checker;
+use crate::decimal_trials::decimal_checks;
 use crate::generate;
 use crate::lent::{Entry, Memory};
 use crate::listing::{listing, listing_lent, MAX_LISTING};
@@ -35,6 +36,7 @@ pub fn self_check() -> bool {
     input_a_trials(&mut tally);
     bench_trials(&mut tally);
     range_checks(&mut tally);
+    decimal_checks(&mut tally);
     power_trials(&mut tally);
     part_trials(&mut tally);
     corpus_trials(&mut tally);

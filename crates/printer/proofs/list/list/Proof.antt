@@ -1,39 +1,28 @@
--- `printer::list::list` meets its contract: by the verdict on the tables. Assumes nothing.
+-- `printer::list::list` meets its contract: its words are as many as the nodes, or as a script may have. Assumes nothing.
 use borrow.Author.Needs.{needs}
-use Rattle.script.proofs.ReplyLaws.{tells-refusal}
-use Rattle.script.proofs.Verdicts.{passed-tells-none}
-use Rattle.script.proofs.Texts.{writes-passed, writes-refused}
-use Rattle.printer.specs.ListCalls.{listRefusal}
+use native.Mathlib.Omega.{arith}
+use lib.ListN.{length-replicate}
+use Rattle.lambdamix.specs.Limits.{maxNodes}
 use Rattle.printer.proofs.list.list.Statement.{statement}
 use Rattle.printer.proofs.list.list.Tie as tie
 
+list-in-requires : tie.Need-list-in-requires
+list-in-requires c κs = simp length-replicate (omega (arith, c .before .before .if1 .taken))
+
 returns : tie.Need-returns
-unfolding listRefusal
-returns c =
-    record {
-      text = writes-refused (tells-refusal (c .before .before .before .tables-refusal .ensures)) (c .before .f .given .1) (search needs);
-      lent = c .before .before .before .before .tables-fit .ensures;
-    }
+returns c = record { text = c .before .before .before .list-in .ensures; lent = c .before .before .before .before .before .before .before .before .tables-fit .ensures }
+
+list-in-requires-2 : tie.Need-list-in-requires-2
+unfolding maxNodes
+list-in-requires-2 c κs = simp length-replicate (omega arith)
 
 returns-2 : tie.Need-returns-2
-unfolding listRefusal
-returns-2 c =
-    let told = tells-refusal (c .before .before .before .before .before .before .tables-refusal .ensures) in
-    let passed = c .before .before .before .before .enum-told .given .1 in
-    record {
-      text = writes-passed told passed (c .before .before .list-tables .ensures .lists _ _ _ (passed-tells-none told passed));
-      lent = c .before .before .before .before .before .before .before .tables-fit .ensures;
-    }
+returns-2 c = record { text = c .before .before .before .list-in2 .ensures; lent = c .before .before .before .before .before .before .before .before .tables-fit .ensures }
 
 pub list-spec : {M : Type 1} → statement M
 list-spec =
     tie.close
     (tie.spec
     (λ c κs. tt)
-    (λ c κs. search needs)
-    (λ c. search needs)
-    (λ c. search needs)
-    (λ c κs. search needs)
-    returns
-    (λ c. search needs)
-    returns-2)
+    (λ c. search needs) (λ c. search needs) list-in-requires (λ c. search needs) returns
+    (λ c. search needs) list-in-requires-2 (λ c. search needs) returns-2)

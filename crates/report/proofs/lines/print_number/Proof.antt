@@ -8,13 +8,7 @@ use Rattle.report.proofs.lines.print_number.Tie as tie
 
 returns : tie.Need-returns
 unfolding ascii
-returns c = line-placed (c .before .before .before .before .before .before .before .before .before .before .before .print-steps .ensures) (rw (
-  c
-      .before .before .before .before .before .before .before .decimal .ensures,
-  toZ-ofZ (c .before .before .before .before .before .before .before
-      .before .before .before .before .before .before .before .fits .z),
-) at (c .before .before .before .before .before .before .part-at .ensures)) (c
-    .before .before .part-at2 .ensures)
+returns c = line-placed (c .before .before .before .before .before .before .before .before .before .before .print-steps .ensures) (rw (toZ-ofZ (c .before .before .before .before .before .before .before .before .before .before .before .before .before .fits .z)) at (c .before .before .before .before .before .before .decimal-at .ensures)) (c .before .before .letter-at .ensures)
 
 pub print-number-spec : {M : Type 1} → statement M
-print-number-spec = tie.close (tie.spec (λ c κs. tt) (λ c κs. tt) (λ c κs. tt) (λ c κs. tt) (λ c. search needs) returns)
+print-number-spec = tie.close (tie.spec (λ c κs. tt) (λ c κs. tt) (λ c κs. tt) (λ c. search needs) returns)

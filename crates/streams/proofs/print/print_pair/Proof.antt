@@ -7,15 +7,7 @@ use Rattle.streams.proofs.print.print_pair.Tie as tie
 
 returns : tie.Need-returns
 unfolding ascii
-returns c =
-    let at-text-at = c .before .before .before .before .before .before .before .before .before .before .before .before .before .before
-    .before .before .before .before .text-at in
-    let at-part-at = c .before .before .before .before .before .before .before .before .before .before .before .before .before .before
-    .part-at in
-    let at-text-at2 = c .before .before .before .before .before .before .before .before .before .before .text-at2 in
-    let at-part-at2 = c .before .before .before .before .before .before .part-at2 in
-    let at-part-at3 = c .before .before .part-at3 in
-    pair-placed _ _ (at-text-at .ensures) (at-part-at .ensures) (at-text-at2 .ensures) (at-part-at2 .ensures) (at-part-at3 .ensures)
+returns c = pair-placed _ _ (c .before .before .before .before .before .before .before .before .before .before .before .before .before .before .before .before .before .before .text-at .ensures) (c .before .before .before .before .before .before .before .before .before .before .before .before .before .before .digits-at .ensures) (c .before .before .before .before .before .before .before .before .before .before .text-at2 .ensures) (c .before .before .before .before .before .before .long-at .ensures) (c .before .before .letter-at .ensures)
 
 pub print-pair-spec : {M : Type 1} → statement M
 print-pair-spec =

@@ -1,0 +1,462 @@
+-- The walk meets its contracts, and ends: six times the node's number, and more for each call on the way from a child back to its node. Assumes nothing.
+use borrow.Author.Needs.{needs}
+use mathlib.Core.Path.{refl}
+use native.Mathlib.Omega.{arith}
+use mir.Facts.{toZ-ofZ}
+use Prim.Native.Nat.{ℕ, _+_, _*_, _<_}
+use Rattle.lambdamix.specs.Script.{stepOf, rows}
+use Rattle.lambdamix.specs.Text.{ascii}
+use Rattle.lambdamix.specs.Listing.{formerText}
+use Rattle.script.specs.Kinds.{useOf, usesTable}
+use Rattle.script.specs.KindRows.{rowAt}
+use Rattle.script.proofs.TableLaws.{Other}
+use Rattle.layout.specs.Nodes.{stepWord, wordOf, wordText, inBrackets, framed, fieldText}
+use Rattle.text.proofs.Writing.{stays, join, placed-rest}
+use Rattle.layout.proofs.NodeLaws.{child-placed, no-child-placed, past-value, past-uses, value-placed, bare-placed, group-placed, node-kind}
+use borrow.Fn.Kinds.{In}
+use borrow.Fn.PlainCycle.{Measures, is, falls, and}
+use Rattle.layout.proofs.walk.bare.Reads as bare
+use Rattle.layout.proofs.walk.bare.Kinds as bare-kinds
+use Rattle.layout.proofs.walk.+bare+child_at+group+node+spaced_at.Lts-bare as bare-lts
+use Rattle.layout.proofs.walk.child_at.Reads as child-at
+use Rattle.layout.proofs.walk.child_at.Kinds as child-at-kinds
+use Rattle.layout.proofs.walk.+bare+child_at+group+node+spaced_at.Lts-child_at as child-at-lts
+use Rattle.layout.proofs.walk.group.Reads as group
+use Rattle.layout.proofs.walk.group.Kinds as group-kinds
+use Rattle.layout.proofs.walk.+bare+child_at+group+node+spaced_at.Lts-group as group-lts
+use Rattle.layout.proofs.walk.node.Reads as node
+use Rattle.layout.proofs.walk.node.Kinds as node-kinds
+use Rattle.layout.proofs.walk.+bare+child_at+group+node+spaced_at.Lts-node as node-lts
+use Rattle.layout.proofs.walk.spaced_at.Reads as spaced-at
+use Rattle.layout.proofs.walk.spaced_at.Kinds as spaced-at-kinds
+use Rattle.layout.proofs.walk.+bare+child_at+group+node+spaced_at.Lts-spaced_at as spaced-at-lts
+use Rattle.layout.proofs.words.name_at.Reads as name-at-reads
+use Rattle.layout.proofs.words.put_sign.Reads as put-sign-reads
+use Rattle.script.proofs.kinds.row_of.Reads as row-of-reads
+use Rattle.script.proofs.word.field_a.Reads as field-a-reads
+use Rattle.script.proofs.word.field_b.Reads as field-b-reads
+use Rattle.script.proofs.word.field_c.Reads as field-c-reads
+use Rattle.script.proofs.word.kind.Reads as kind-reads
+use Rattle.script.proofs.word.node_word.Reads as node-word-reads
+use Rattle.script.proofs.word.value.Reads as value-reads
+use Rattle.text.proofs.decimals.decimal_at.Reads as decimal-at-reads
+use Rattle.text.proofs.parts.further.Reads as further-reads
+use Rattle.text.proofs.parts.least.Reads as least-reads
+use Rattle.text.proofs.parts.letter_at.Reads as letter-at-reads
+use Rattle.text.proofs.parts.text_at.Reads as text-at-reads
+use Rattle.layout.proofs.walk.+bare+child_at+group+node+spaced_at.{statement}
+use Rattle.layout.proofs.walk.+bare+child_at+group+node+spaced_at.Tie.{close}
+
+abbrev μ-bare : Measures 3 bare-kinds.ps ℕ
+μ-bare κs a = 4 * a .1 .1 .0 .0 + 1
+
+abbrev μ-child-at : Measures 3 child-at-kinds.ps ℕ
+μ-child-at κs a = 4 * a .1 .1 .0 .0
+
+abbrev μ-group : Measures 3 group-kinds.ps ℕ
+μ-group κs a = 4 * a .1 .1 .0 .0 + 2
+
+abbrev μ-node : Measures 3 node-kinds.ps ℕ
+μ-node κs a = 4 * a .1 .1 .0 .0 + 3
+
+abbrev μ-spaced-at : Measures 3 spaced-at-kinds.ps ℕ
+μ-spaced-at κs a = 4 * a .1 .1 .0 .0 + 1
+
+abbrev bare-now : ℕ → In 3 bare-kinds.ps
+bare-now t = and 3 bare-kinds.ps (is 3 bare-kinds.ps μ-bare t) bare.Pre
+
+abbrev bare-below : ℕ → In 3 bare-kinds.ps
+bare-below t = and 3 bare-kinds.ps (falls 3 bare-kinds.ps _<_ μ-bare t) bare.Pre
+
+abbrev child-at-now : ℕ → In 3 child-at-kinds.ps
+child-at-now t = and 3 child-at-kinds.ps (is 3 child-at-kinds.ps μ-child-at t) child-at.Pre
+
+abbrev child-at-below : ℕ → In 3 child-at-kinds.ps
+child-at-below t = and 3 child-at-kinds.ps (falls 3 child-at-kinds.ps _<_ μ-child-at t) child-at.Pre
+
+abbrev group-now : ℕ → In 3 group-kinds.ps
+group-now t = and 3 group-kinds.ps (is 3 group-kinds.ps μ-group t) group.Pre
+
+abbrev group-below : ℕ → In 3 group-kinds.ps
+group-below t = and 3 group-kinds.ps (falls 3 group-kinds.ps _<_ μ-group t) group.Pre
+
+abbrev node-now : ℕ → In 3 node-kinds.ps
+node-now t = and 3 node-kinds.ps (is 3 node-kinds.ps μ-node t) node.Pre
+
+abbrev node-below : ℕ → In 3 node-kinds.ps
+node-below t = and 3 node-kinds.ps (falls 3 node-kinds.ps _<_ μ-node t) node.Pre
+
+abbrev spaced-at-now : ℕ → In 3 spaced-at-kinds.ps
+spaced-at-now t = and 3 spaced-at-kinds.ps (is 3 spaced-at-kinds.ps μ-spaced-at t) spaced-at.Pre
+
+abbrev spaced-at-below : ℕ → In 3 spaced-at-kinds.ps
+spaced-at-below t = and 3 spaced-at-kinds.ps (falls 3 spaced-at-kinds.ps _<_ μ-spaced-at t) spaced-at.Pre
+
+-- what the calls of each are given
+abbrev bare-given : ℕ → bare-lts.Claims
+bare-given t = (
+  field-a-reads.Asked,
+  field-a-reads.Learnt,
+  name-at-reads.Asked,
+  name-at-reads.Learnt,
+  child-at-below t,
+  child-at.Post,
+)
+
+abbrev child-at-given : ℕ → child-at-lts.Claims
+child-at-given t = (
+  least-reads.Asked,
+  least-reads.Learnt,
+  node-below t,
+  node.Post,
+  further-reads.Asked,
+  further-reads.Learnt,
+  letter-at-reads.Asked,
+  letter-at-reads.Learnt,
+)
+
+abbrev group-given : ℕ → group-lts.Claims
+group-given t = (
+  field-a-reads.Asked,
+  field-a-reads.Learnt,
+  spaced-at-below t,
+  spaced-at.Post,
+  field-b-reads.Asked,
+  field-b-reads.Learnt,
+  field-c-reads.Asked,
+  field-c-reads.Learnt,
+  letter-at-reads.Asked,
+  letter-at-reads.Learnt,
+)
+
+abbrev node-given : ℕ → node-lts.Claims
+node-given t = (
+  node-word-reads.Asked,
+  node-word-reads.Learnt,
+  kind-reads.Asked,
+  kind-reads.Learnt,
+  value-reads.Asked,
+  value-reads.Learnt,
+  decimal-at-reads.Asked,
+  decimal-at-reads.Learnt,
+  row-of-reads.Asked,
+  row-of-reads.Learnt,
+  bare-below t,
+  bare.Post,
+  text-at-reads.Asked,
+  text-at-reads.Learnt,
+  group-below t,
+  group.Post,
+  field-c-reads.Asked,
+  field-c-reads.Learnt,
+  put-sign-reads.Asked,
+  put-sign-reads.Learnt,
+)
+
+abbrev spaced-at-given : ℕ → spaced-at-lts.Claims
+spaced-at-given t = (
+  letter-at-reads.Asked,
+  letter-at-reads.Learnt,
+  name-at-reads.Asked,
+  name-at-reads.Learnt,
+  child-at-below t,
+  child-at.Post,
+)
+
+bare-returns : (t : ℕ) → bare-lts.Need-returns (bare-given t) (bare-now t) bare.Post
+unfolding fieldText framed
+bare-returns t c = rw (c .enum-told .given .1) (stays (omega arith))
+
+bare-returns-2 : (t : ℕ) → bare-lts.Need-returns-2 (bare-given t) (bare-now t) bare.Post
+unfolding fieldText framed
+bare-returns-2 t c = rw (c .before .before .before .before .enum-told2 .given .1, ← c .before .before .before .before .before .before .field-a .ensures) (c .before .before .name-at .ensures)
+
+bare-returns-3 : (t : ℕ) → bare-lts.Need-returns-3 (bare-given t) (bare-now t) bare.Post
+unfolding fieldText framed
+bare-returns-3 t c = rw (c .before .before .before .before .enum-told3 .given .1, ← c .before .before .before .before .before .before .field-a .ensures) (c .before .before .name-at2 .ensures)
+
+bare-returns-4 : (t : ℕ) → bare-lts.Need-returns-4 (bare-given t) (bare-now t) bare.Post
+unfolding fieldText framed
+bare-returns-4 t c = rw (c .before .before .before .before .enum-told4 .given .1, ← c .before .before .before .before .before .before .field-a .ensures) (c .before .before .child-at .ensures)
+
+bare-returns-5 : (t : ℕ) → bare-lts.Need-returns-5 (bare-given t) (bare-now t) bare.Post
+unfolding fieldText framed
+bare-returns-5 t c = rw (c .enum-told5 .given .1) (stays (omega arith))
+
+bare-returns-6 : (t : ℕ) → bare-lts.Need-returns-6 (bare-given t) (bare-now t) bare.Post
+unfolding fieldText framed
+bare-returns-6 t c = rw (c .enum-told6 .given .1) (stays (omega arith))
+
+child-at-returns : (t : ℕ) → child-at-lts.Need-returns (child-at-given t) (child-at-now t) child-at.Post
+child-at-returns t c = child-placed _ _ _ (omega (arith, c .before .before .before .before .before .before .if1 .taken)) (placed-rest (omega (arith, c .before .before .before .before .before .least .ensures)) (c .before .before .before .node .ensures) (c .further .ensures))
+
+child-at-returns-2 : (t : ℕ) → child-at-lts.Need-returns-2 (child-at-given t) (child-at-now t) child-at.Post
+child-at-returns-2 t c = no-child-placed _ _ _ (omega (arith, c .before .before .before .before .if1 .left)) (c .before .before .letter-at .ensures)
+
+group-returns : (t : ℕ) → group-lts.Need-returns (group-given t) (group-now t) group.Post
+group-returns t c = rw (← c .before .before .before .before .before .before .before .before .before .before .before .before .before .before .before .before .before .before .field-a .ensures, ← c .before .before .before .before .before .before .before .before .before .before .before .before .before .field-b .ensures, ← c .before .before .before .before .before .before .before .before .field-c .ensures)
+    (join (join (join (c .before .before .before .before .before .before .before .before .before .before .before .before .before .before .before .before .spaced-at .ensures) (c .before .before .before .before .before .before .before .before .before .before .before .spaced-at2 .ensures)) (c .before .before .before .before .before .before .spaced-at3 .ensures)) (c .before .before .letter-at .ensures))
+
+group-same-length : (t : ℕ) → group-lts.Need-same-length (group-given t) (group-now t) group.Post
+group-same-length t c = omega (arith, c .before .before .before .before .before .before .before .before .before .before .before .before .before .before .before .before .spaced-at .kept, c .before .before .before .before .before .before .before .before .before .before .before .spaced-at2 .kept, c .before .before .before .before .before .before .spaced-at3 .kept, c .before .before .letter-at .kept)
+
+spaced-at-returns : (t : ℕ) → spaced-at-lts.Need-returns (spaced-at-given t) (spaced-at-now t) spaced-at.Post
+unfolding fieldText framed
+spaced-at-returns t c = rw (c .enum-told .given .1) (stays (omega arith))
+
+spaced-at-returns-2 : (t : ℕ) → spaced-at-lts.Need-returns-2 (spaced-at-given t) (spaced-at-now t) spaced-at.Post
+unfolding fieldText framed
+spaced-at-returns-2 t c = rw (c .before .before .before .before .before .before .before .before .enum-told2 .given .1) (join (c .before .before .before .before .before .before .letter-at .ensures) (c .before .before .name-at .ensures))
+
+spaced-at-returns-3 : (t : ℕ) → spaced-at-lts.Need-returns-3 (spaced-at-given t) (spaced-at-now t) spaced-at.Post
+unfolding fieldText framed
+spaced-at-returns-3 t c = rw (c .before .before .before .before .before .before .before .before .enum-told3 .given .1) (join (c .before .before .before .before .before .before .letter-at2 .ensures) (c .before .before .name-at2 .ensures))
+
+spaced-at-returns-4 : (t : ℕ) → spaced-at-lts.Need-returns-4 (spaced-at-given t) (spaced-at-now t) spaced-at.Post
+unfolding fieldText framed
+spaced-at-returns-4 t c = rw (c .before .before .before .before .before .before .before .before .enum-told4 .given .1) (join (c .before .before .before .before .before .before .letter-at3 .ensures) (c .before .before .child-at .ensures))
+
+spaced-at-returns-5 : (t : ℕ) → spaced-at-lts.Need-returns-5 (spaced-at-given t) (spaced-at-now t) spaced-at.Post
+unfolding fieldText framed
+spaced-at-returns-5 t c = rw (c .enum-told5 .given .1) (stays (omega arith))
+
+spaced-at-returns-6 : (t : ℕ) → spaced-at-lts.Need-returns-6 (spaced-at-given t) (spaced-at-now t) spaced-at.Post
+unfolding fieldText framed
+spaced-at-returns-6 t c = rw (c .enum-told6 .given .1) (stays (omega arith))
+
+node-returns : (t : ℕ) → node-lts.Need-returns (node-given t) (node-now t) node.Post
+unfolding wordOf stepOf stepWord rows rowAt useOf usesTable
+node-returns t c = 
+    value-placed (c .before .before .before .before .before .before .before .before .before .before .args .inputs) (c .before .before .before .before .before .before .before .before .before .before .args .nodes .now .now) (c .before .before .before .before .before .before .before .before .before .before .args .i .0) 0 (node-kind (c .before .before .before .before .before .before .kind .ensures) (c .before .before .before .before .before .before .before .node-word .ensures)) (omega arith) refl refl (rw (toZ-ofZ (record { sfits = c .before .before .before .value .ok }), c .before .before .before .value .ensures, c .before .before .before .before .before .before .before .node-word .ensures) at (c .before .before .decimal-at .ensures))
+
+node-returns-2 : (t : ℕ) → node-lts.Need-returns-2 (node-given t) (node-now t) node.Post
+unfolding wordOf stepOf stepWord rows rowAt useOf usesTable
+node-returns-2 t c = 
+    bare-placed (c .before .before .before .before .before .before .before .before .before .before .args .inputs) (c .before .before .before .before .before .before .before .before .before .before .args .nodes .now .now) (c .before .before .before .before .before .before .before .before .before .before .args .i .0) 1 (node-kind (c .before .before .before .before .before .before .kind .ensures) (c .before .before .before .before .before .before .before .node-word .ensures)) (omega arith) refl refl (c .before .before .before .before .row-of .ensures) (rw (c .before .before .before .before .before .before .before .node-word .ensures) at (c .before .before .bare .ensures))
+
+node-returns-3 : (t : ℕ) → node-lts.Need-returns-3 (node-given t) (node-now t) node.Post
+unfolding wordOf stepOf stepWord rows rowAt useOf usesTable
+node-returns-3 t c = 
+    bare-placed (c .before .before .before .before .before .before .before .before .before .before .args .inputs) (c .before .before .before .before .before .before .before .before .before .before .args .nodes .now .now) (c .before .before .before .before .before .before .before .before .before .before .args .i .0) 2 (node-kind (c .before .before .before .before .before .before .kind .ensures) (c .before .before .before .before .before .before .before .node-word .ensures)) (omega arith) refl refl (c .before .before .before .before .row-of2 .ensures) (rw (c .before .before .before .before .before .before .before .node-word .ensures) at (c .before .before .bare2 .ensures))
+
+node-returns-4 : (t : ℕ) → node-lts.Need-returns-4 (node-given t) (node-now t) node.Post
+unfolding wordOf stepOf stepWord rows rowAt useOf usesTable wordText inBrackets formerText ascii
+node-returns-4 t c = 
+    group-placed (c .before .before .before .before .before .before .before .before .before .before .before .before .before .before .before .args .inputs) (c .before .before .before .before .before .before .before .before .before .before .before .before .before .before .before .args .nodes .now .now) (c .before .before .before .before .before .before .before .before .before .before .before .before .before .before .before .args .i .0) 3 (node-kind (c .before .before .before .before .before .before .before .before .before .before .before .kind .ensures) (c .before .before .before .before .before .before .before .before .before .before .before .before .node-word .ensures)) (omega arith) refl refl refl (c .before .before .before .before .row-of3 .ensures)
+    (c .before .before .before .before .before .before .before .text-at .ensures) (rw (c .before .before .before .before .before .before .before .before .before .before .before .before .node-word .ensures) at (c .before .before .group .ensures))
+
+node-returns-5 : (t : ℕ) → node-lts.Need-returns-5 (node-given t) (node-now t) node.Post
+unfolding wordOf stepOf stepWord rows rowAt useOf usesTable wordText inBrackets formerText ascii
+node-returns-5 t c = 
+    group-placed (c .before .before .before .before .before .before .before .before .before .before .before .before .before .before .before .args .inputs) (c .before .before .before .before .before .before .before .before .before .before .before .before .before .before .before .args .nodes .now .now) (c .before .before .before .before .before .before .before .before .before .before .before .before .before .before .before .args .i .0) 4 (node-kind (c .before .before .before .before .before .before .before .before .before .before .before .kind .ensures) (c .before .before .before .before .before .before .before .before .before .before .before .before .node-word .ensures)) (omega arith) refl refl refl (c .before .before .before .before .row-of4 .ensures)
+    (c .before .before .before .before .before .before .before .text-at2 .ensures) (rw (c .before .before .before .before .before .before .before .before .before .before .before .before .node-word .ensures) at (c .before .before .group2 .ensures))
+
+node-returns-6 : (t : ℕ) → node-lts.Need-returns-6 (node-given t) (node-now t) node.Post
+unfolding wordOf stepOf stepWord rows rowAt useOf usesTable wordText inBrackets formerText ascii
+node-returns-6 t c = 
+    group-placed (c .before .before .before .before .before .before .before .before .before .before .before .before .before .before .before .args .inputs) (c .before .before .before .before .before .before .before .before .before .before .before .before .before .before .before .args .nodes .now .now) (c .before .before .before .before .before .before .before .before .before .before .before .before .before .before .before .args .i .0) 5 (node-kind (c .before .before .before .before .before .before .before .before .before .before .before .kind .ensures) (c .before .before .before .before .before .before .before .before .before .before .before .before .node-word .ensures)) (omega arith) refl refl refl (c .before .before .before .before .row-of5 .ensures)
+    (c .before .before .before .before .before .before .before .text-at3 .ensures) (rw (c .before .before .before .before .before .before .before .before .before .before .before .before .node-word .ensures) at (c .before .before .group3 .ensures))
+
+node-returns-7 : (t : ℕ) → node-lts.Need-returns-7 (node-given t) (node-now t) node.Post
+unfolding wordOf stepOf stepWord rows rowAt useOf usesTable wordText inBrackets formerText ascii
+node-returns-7 t c = 
+    group-placed (c .before .before .before .before .before .before .before .before .before .before .before .before .before .before .before .args .inputs) (c .before .before .before .before .before .before .before .before .before .before .before .before .before .before .before .args .nodes .now .now) (c .before .before .before .before .before .before .before .before .before .before .before .before .before .before .before .args .i .0) 6 (node-kind (c .before .before .before .before .before .before .before .before .before .before .before .kind .ensures) (c .before .before .before .before .before .before .before .before .before .before .before .before .node-word .ensures)) (omega arith) refl refl refl (c .before .before .before .before .row-of6 .ensures)
+    (c .before .before .before .before .before .before .before .text-at4 .ensures) (rw (c .before .before .before .before .before .before .before .before .before .before .before .before .node-word .ensures) at (c .before .before .group4 .ensures))
+
+node-returns-8 : (t : ℕ) → node-lts.Need-returns-8 (node-given t) (node-now t) node.Post
+unfolding wordOf stepOf stepWord rows rowAt useOf usesTable wordText inBrackets formerText ascii
+node-returns-8 t c = 
+    group-placed (c .before .before .before .before .before .before .before .before .before .before .before .before .before .before .before .args .inputs) (c .before .before .before .before .before .before .before .before .before .before .before .before .before .before .before .args .nodes .now .now) (c .before .before .before .before .before .before .before .before .before .before .before .before .before .before .before .args .i .0) 7 (node-kind (c .before .before .before .before .before .before .before .before .before .before .before .kind .ensures) (c .before .before .before .before .before .before .before .before .before .before .before .before .node-word .ensures)) (omega arith) refl refl refl (c .before .before .before .before .row-of7 .ensures)
+    (rw (c .before .before .before .before .before .before .before .before .field-c .ensures, c .before .before .before .before .before .before .before .before .before .before .before .before .node-word .ensures) at (c .before .before .before .before .before .before .before .put-sign .ensures)) (rw (c .before .before .before .before .before .before .before .before .before .before .before .before .node-word .ensures) at (c .before .before .group5 .ensures))
+
+node-returns-9 : (t : ℕ) → node-lts.Need-returns-9 (node-given t) (node-now t) node.Post
+unfolding wordOf stepOf stepWord rows rowAt useOf usesTable wordText inBrackets formerText ascii
+node-returns-9 t c = 
+    group-placed (c .before .before .before .before .before .before .before .before .before .before .before .before .before .before .before .args .inputs) (c .before .before .before .before .before .before .before .before .before .before .before .before .before .before .before .args .nodes .now .now) (c .before .before .before .before .before .before .before .before .before .before .before .before .before .before .before .args .i .0) 8 (node-kind (c .before .before .before .before .before .before .before .before .before .before .before .kind .ensures) (c .before .before .before .before .before .before .before .before .before .before .before .before .node-word .ensures)) (omega arith) refl refl refl (c .before .before .before .before .row-of8 .ensures)
+    (c .before .before .before .before .before .before .before .text-at5 .ensures) (rw (c .before .before .before .before .before .before .before .before .before .before .before .before .node-word .ensures) at (c .before .before .group6 .ensures))
+
+node-returns-10 : (t : ℕ) → node-lts.Need-returns-10 (node-given t) (node-now t) node.Post
+unfolding wordOf stepOf stepWord rows rowAt useOf usesTable wordText inBrackets formerText ascii
+node-returns-10 t c = 
+    group-placed (c .before .before .before .before .before .before .before .before .before .before .before .before .before .before .before .args .inputs) (c .before .before .before .before .before .before .before .before .before .before .before .before .before .before .before .args .nodes .now .now) (c .before .before .before .before .before .before .before .before .before .before .before .before .before .before .before .args .i .0) 9 (node-kind (c .before .before .before .before .before .before .before .before .before .before .before .kind .ensures) (c .before .before .before .before .before .before .before .before .before .before .before .before .node-word .ensures)) (omega arith) refl refl refl (c .before .before .before .before .row-of9 .ensures)
+    (c .before .before .before .before .before .before .before .text-at6 .ensures) (rw (c .before .before .before .before .before .before .before .before .before .before .before .before .node-word .ensures) at (c .before .before .group7 .ensures))
+
+node-returns-11 : (t : ℕ) → node-lts.Need-returns-11 (node-given t) (node-now t) node.Post
+unfolding wordOf stepOf stepWord rows rowAt useOf usesTable wordText inBrackets formerText ascii
+node-returns-11 t c = 
+    group-placed (c .before .before .before .before .before .before .before .before .before .before .before .before .before .before .before .args .inputs) (c .before .before .before .before .before .before .before .before .before .before .before .before .before .before .before .args .nodes .now .now) (c .before .before .before .before .before .before .before .before .before .before .before .before .before .before .before .args .i .0) 10 (node-kind (c .before .before .before .before .before .before .before .before .before .before .before .kind .ensures) (c .before .before .before .before .before .before .before .before .before .before .before .before .node-word .ensures)) (omega arith) refl refl refl (c .before .before .before .before .row-of10 .ensures)
+    (c .before .before .before .before .before .before .before .text-at7 .ensures) (rw (c .before .before .before .before .before .before .before .before .before .before .before .before .node-word .ensures) at (c .before .before .group8 .ensures))
+
+node-returns-12 : (t : ℕ) → node-lts.Need-returns-12 (node-given t) (node-now t) node.Post
+unfolding wordOf stepOf stepWord rows rowAt useOf usesTable wordText inBrackets formerText ascii
+node-returns-12 t c = 
+    group-placed (c .before .before .before .before .before .before .before .before .before .before .before .before .before .before .before .args .inputs) (c .before .before .before .before .before .before .before .before .before .before .before .before .before .before .before .args .nodes .now .now) (c .before .before .before .before .before .before .before .before .before .before .before .before .before .before .before .args .i .0) 11 (node-kind (c .before .before .before .before .before .before .before .before .before .before .before .kind .ensures) (c .before .before .before .before .before .before .before .before .before .before .before .before .node-word .ensures)) (omega arith) refl refl refl (c .before .before .before .before .row-of11 .ensures)
+    (c .before .before .before .before .before .before .before .text-at8 .ensures) (rw (c .before .before .before .before .before .before .before .before .before .before .before .before .node-word .ensures) at (c .before .before .group9 .ensures))
+
+node-returns-13 : (t : ℕ) → node-lts.Need-returns-13 (node-given t) (node-now t) node.Post
+unfolding wordOf stepOf stepWord rows rowAt useOf usesTable wordText inBrackets formerText ascii
+node-returns-13 t c = 
+    group-placed (c .before .before .before .before .before .before .before .before .before .before .before .before .before .before .before .args .inputs) (c .before .before .before .before .before .before .before .before .before .before .before .before .before .before .before .args .nodes .now .now) (c .before .before .before .before .before .before .before .before .before .before .before .before .before .before .before .args .i .0) 12 (node-kind (c .before .before .before .before .before .before .before .before .before .before .before .kind .ensures) (c .before .before .before .before .before .before .before .before .before .before .before .before .node-word .ensures)) (omega arith) refl refl refl (c .before .before .before .before .row-of12 .ensures)
+    (rw (c .before .before .before .before .before .before .before .before .field-c2 .ensures, c .before .before .before .before .before .before .before .before .before .before .before .before .node-word .ensures) at (c .before .before .before .before .before .before .before .put-sign2 .ensures)) (rw (c .before .before .before .before .before .before .before .before .before .before .before .before .node-word .ensures) at (c .before .before .group10 .ensures))
+
+node-returns-14 : (t : ℕ) → node-lts.Need-returns-14 (node-given t) (node-now t) node.Post
+unfolding Other
+node-returns-14 t c = 
+    value-placed (c .before .before .before .before .before .before .before .before .before .before .args .inputs) (c .before .before .before .before .before .before .before .before .before .before .args .nodes .now .now) (c .before .before .before .before .before .before .before .before .before .before .args .i .0) (c .before .before .before .before .before .before .kind .result) (node-kind (c .before .before .before .before .before .before .kind .ensures) (c .before .before .before .before .before .before .before .node-word .ensures)) refl (past-value _ (c .before .before .before .before .before .match .rest)) (past-uses _ (c .before .before .before .before .before .match .rest))
+    (rw (toZ-ofZ (record { sfits = c .before .before .before .value2 .ok }), c .before .before .before .value2 .ensures, c .before .before .before .before .before .before .before .node-word .ensures) at (c .before .before .decimal-at2 .ensures))
+
+pub +bare+child-at+group+node+spaced-at-spec : {M : Type 1} → statement M
++bare+child-at+group+node+spaced-at-spec =
+    close μ-bare μ-child-at μ-group μ-node μ-spaced-at (λ t. bare-lts.spec (bare-given t)
+    (bare-now t)
+    bare.Post
+    (λ c κs. search needs)
+    (λ c. search needs)
+    (λ c. search needs)
+    (λ c κs. search needs)
+    (λ c. search needs)
+    (λ c κs. search needs)
+    (λ c. search needs)
+    (λ c κs. (omega arith, tt))
+    (λ c. search needs)
+    (λ c. search needs)
+    (bare-returns t)
+    (λ c. search needs)
+    (bare-returns-2 t)
+    (λ c. search needs)
+    (bare-returns-3 t)
+    (λ c. search needs)
+    (bare-returns-4 t)
+    (bare-returns-5 t)
+    (bare-returns-6 t))
+    (λ t. child-at-lts.spec (child-at-given t)
+    (child-at-now t)
+    child-at.Post
+    (λ c κs. search needs)
+    (λ c. search needs)
+    (λ c. search needs)
+    (λ c. search needs)
+    (λ c κs. (omega arith, tt))
+    (λ c κs. search needs)
+    (λ c. search needs)
+    (child-at-returns t)
+    (λ c κs. search needs)
+    (λ c. search needs)
+    (child-at-returns-2 t))
+    (λ t. group-lts.spec (group-given t)
+    (group-now t)
+    group.Post
+    (λ c κs. search needs)
+    (λ c κs. (omega arith, tt))
+    (λ c κs. search needs)
+    (λ c κs. (omega arith, tt))
+    (λ c κs. search needs)
+    (λ c κs. (omega arith, tt))
+    (λ c κs. search needs)
+    (group-same-length t)
+    (group-returns t))
+    (λ t. node-lts.spec (node-given t)
+    (node-now t)
+    node.Post
+    (λ c κs. search needs)
+    (λ c κs. search needs)
+    (λ c κs. search needs)
+    (λ c κs. search needs)
+    (λ c κs. search needs)
+    (λ c κs. (omega arith, tt))
+    (λ c κs. search needs)
+    (λ c κs. (omega arith, tt))
+    (λ c. search needs)
+    (λ c κs. search needs)
+    (λ c κs. search needs)
+    (λ c κs. (omega arith, tt))
+    (λ c. search needs)
+    (λ c κs. search needs)
+    (λ c κs. search needs)
+    (λ c κs. (omega arith, tt))
+    (λ c. search needs)
+    (λ c κs. search needs)
+    (λ c κs. search needs)
+    (λ c κs. (omega arith, tt))
+    (λ c. search needs)
+    (λ c κs. search needs)
+    (λ c κs. search needs)
+    (λ c κs. (omega arith, tt))
+    (λ c κs. search needs)
+    (λ c κs. search needs)
+    (λ c κs. search needs)
+    (λ c κs. (omega arith, tt))
+    (λ c. search needs)
+    (λ c κs. search needs)
+    (λ c κs. search needs)
+    (λ c κs. (omega arith, tt))
+    (λ c. search needs)
+    (λ c κs. search needs)
+    (λ c κs. search needs)
+    (λ c κs. (omega arith, tt))
+    (λ c. search needs)
+    (λ c κs. search needs)
+    (λ c κs. search needs)
+    (λ c κs. (omega arith, tt))
+    (λ c. search needs)
+    (λ c κs. search needs)
+    (λ c κs. search needs)
+    (λ c κs. (omega arith, tt))
+    (λ c κs. search needs)
+    (λ c κs. search needs)
+    (λ c κs. search needs)
+    (λ c κs. (omega arith, tt))
+    (λ c κs. search needs)
+    (λ c κs. search needs)
+    (λ c. search needs)
+    (node-returns t)
+    (λ c. search needs)
+    (node-returns-2 t)
+    (λ c. search needs)
+    (node-returns-3 t)
+    (λ c. search needs)
+    (node-returns-4 t)
+    (λ c. search needs)
+    (node-returns-5 t)
+    (λ c. search needs)
+    (node-returns-6 t)
+    (λ c. search needs)
+    (node-returns-7 t)
+    (λ c. search needs)
+    (node-returns-8 t)
+    (λ c. search needs)
+    (node-returns-9 t)
+    (λ c. search needs)
+    (node-returns-10 t)
+    (λ c. search needs)
+    (node-returns-11 t)
+    (λ c. search needs)
+    (node-returns-12 t)
+    (λ c. search needs)
+    (node-returns-13 t)
+    (λ c. search needs)
+    (node-returns-14 t))
+    λ t. spaced-at-lts.spec (spaced-at-given t)
+    (spaced-at-now t)
+    spaced-at.Post
+    (λ c. search needs)
+    (λ c. search needs)
+    (λ c κs. search needs)
+    (λ c κs. search needs)
+    (λ c. search needs)
+    (λ c κs. search needs)
+    (λ c κs. search needs)
+    (λ c. search needs)
+    (λ c κs. search needs)
+    (λ c κs. (omega arith, tt))
+    (λ c. search needs)
+    (λ c. search needs)
+    (spaced-at-returns t)
+    (λ c. search needs)
+    (spaced-at-returns-2 t)
+    (λ c. search needs)
+    (spaced-at-returns-3 t)
+    (λ c. search needs)
+    (spaced-at-returns-4 t)
+    (spaced-at-returns-5 t)
+    (spaced-at-returns-6 t)

@@ -1,0 +1,124 @@
+// Decimals, each written in one pass from its first digit to its last, with no count of its digits before. A number is held as a fraction of a power of
+// ten: its whole part is the next digit, and ten times the rest goes on to the next round. Each writer gives the length of its text, also of
+// one that finds no room.
+use crate::Decimal;
+use crate::parts::further;
+use crate::parts::least;
+use script::column::put8;
+ghost use Prim.Native.Nat.{_<_};
+ghost use mathlib.Core.List.{_∷_};
+ghost use Rattle.lambdamix.specs.Text.{digits, decimal};
+ghost use Rattle.text.specs.Places.{Placed};
+ghost use Rattle.text.specs.Decimals.{NextDigit, Draws, PutNumber, PutLong};
+
+// A whole in the units of a fraction. A number below this has 32 bits.
+const WHOLE: u64 = 4294967296;
+
+// Numbers below this, as most are, have five digits at most.
+const SHORT: u32 = 100000;
+
+// A digit behind the bytes that stand, as many as `length` says; a zero in front of all others is none. How many bytes stand then.
+fn put_digit(out: &mut [u8], length: usize, digit: u8) -> usize
+    requires { ⌜ (digit < 10) × (length < 10) ⌝ }
+    ensures { λ r. ⌜ NextDigit digit length (now (out .entry)) (now (out .exit)) r ⌝ }
+{
+    if (digit as usize) + length == 0 {
+        return length;
+    }
+    put8(out, length, 48 + digit);
+    length + 1
+}
+
+// The digits of a fraction, first to last: one in each round, and one after them all.
+fn put_drawn(out: &mut [u8], fraction: u64, rounds: usize) -> Decimal
+    requires { ⌜ (fraction < 42949672960) × (rounds < 10) ⌝ }
+    ensures { λ r. ⌜ Draws fraction rounds (now (out .entry)) (now (out .exit)) r ⌝ }
+{
+    let mut rest = fraction;
+    let mut length = 0;
+    let mut round = 0;
+    while round < rounds {
+        length = put_digit(out, length, (rest / WHOLE) as u8);
+        rest = rest % WHOLE * 10;
+        round += 1;
+    }
+    put8(out, length, 48 + (rest / WHOLE) as u8);
+    Decimal {
+        length: length + 1,
+        rounds: round,
+    }
+}
+
+// A number in decimal, without leading zeros.
+pub fn put_digits(out: &mut [u8], x: u32) -> Decimal
+    ensures { λ r. ⌜ PutNumber (digits x) (now (out .entry)) (now (out .exit)) r ⌝ }
+{
+    if x < SHORT {
+        return put_drawn(out, (x as u64) * WHOLE / 10000 + 1, 4);
+    }
+    put_drawn(out, (x as u64) * WHOLE / 1000000000 + 1, 9)
+}
+
+// A letter, then the digits of a number.
+pub fn put_prefixed(out: &mut [u8], letter: u8, x: u32) -> Decimal
+    ensures { λ r. ⌜ PutNumber (letter ∷ digits x) (now (out .entry)) (now (out .exit)) r ⌝ }
+{
+    put8(out, 0, letter);
+    let from = least(1, out.len());
+    let behind = put_digits(&mut out[from..], x);
+    Decimal {
+        length: further(1, behind.length),
+        rounds: behind.rounds,
+    }
+}
+
+// "Signed decimals", the least number too.
+pub fn put_decimal(out: &mut [u8], z: i32) -> Decimal
+    ensures { λ r. ⌜ PutNumber (decimal z) (now (out .entry)) (now (out .exit)) r ⌝ }
+{
+    if z < 0 {
+        return put_prefixed(out, b'-', (-(z as i64)) as u32);
+    }
+    put_digits(out, z as u32)
+}
+
+// A number of up to 64 bits: one of 32 bits as above, any other behind the digits of its tenth.
+fn put_long(out: &mut [u8], x: u64) -> Decimal
+    ensures { λ r. ⌜ PutLong x (now (out .entry)) (now (out .exit)) r ⌝ }
+{
+    if x < WHOLE {
+        return put_digits(out, x as u32);
+    }
+    let front = put_long(out, x / 10);
+    let length = front.length;
+    put8(out, length, 48 + (x % 10) as u8);
+    Decimal {
+        length: length + 1,
+        rounds: front.rounds + 1,
+    }
+}
+
+// The same from a place on, each giving the next place.
+pub fn digits_at(out: &mut [u8], at: usize, x: u32) -> usize
+    ensures { λ r. ⌜ Placed (digits x) at (now (out .entry)) (now (out .exit)) r ⌝ }
+{
+    let from = least(at, out.len());
+    let r = put_digits(&mut out[from..], x);
+    further(at, r.length)
+}
+
+pub fn decimal_at(out: &mut [u8], at: usize, z: i32) -> usize
+    ensures { λ r. ⌜ Placed (decimal z) at (now (out .entry)) (now (out .exit)) r ⌝ }
+{
+    let from = least(at, out.len());
+    let r = put_decimal(&mut out[from..], z);
+    further(at, r.length)
+}
+
+pub fn long_at(out: &mut [u8], at: usize, x: u64) -> usize
+    ensures { λ r. ⌜ Placed (digits x) at (now (out .entry)) (now (out .exit)) r ⌝ }
+{
+    let from = least(at, out.len());
+    let r = put_long(&mut out[from..], x);
+    further(at, r.length)
+}
