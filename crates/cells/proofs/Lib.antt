@@ -1,3 +1,4 @@
 pub mod Words
 pub mod Lookup
 pub mod States
+pub mod Given

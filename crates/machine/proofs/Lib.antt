@@ -9,4 +9,3 @@ pub mod Binding
 pub mod Zeros
 pub mod Inputs
 pub mod Root
-pub mod Given

@@ -13,7 +13,7 @@ pub const LIMIT_16: u64 = 65536;
 
 pub const LIMIT_32: u64 = 4294967296;
 
-const SIGNED_LIMIT: u32 = 2147483648;
+pub const SIGNED_LIMIT: u32 = 2147483648;
 
 // What the bits of a negative number are above it.
 const WRAP: i64 = 4294967296;

@@ -170,9 +170,9 @@ pub ten-digits : (x : ℕ) → x < 4294967296 → Fraction (x * 4294967296 / 100
 ten-digits x h = record { below = omega arith; low = omega arith; high = omega arith }
 
 pub put-number :
-    {t k x : ℕ} {before after : List ℕ} {r : Decimal} → k ≤ mostRounds → Fraction t k x → Draws t k before after r →
+    {t k x : ℕ} {before after : List ℕ} {r : Decimal} → Draws t k before after r → k ≤ mostRounds → Fraction t k x →
     PutNumber (digits x) before after r
-put-number {x} h f d = record { put = d .put x f; rounds = omega (arith, d .rounds) }
+put-number {x} d h f = record { put = d .put x f; rounds = omega (arith, d .rounds) }
 
 -- ---- and of up to 64 bits: one round more for the last digit
 

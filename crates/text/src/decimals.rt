@@ -5,6 +5,8 @@ use crate::Decimal;
 use crate::parts::further;
 use crate::parts::least;
 use script::column::put8;
+use script::word::SIGNED_LIMIT;
+use script::word::bits;
 ghost use Prim.Native.Nat.{_<_};
 ghost use mathlib.Core.List.{_∷_};
 ghost use Rattle.lambdamix.specs.Text.{digits, decimal};
@@ -13,6 +15,9 @@ ghost use Rattle.text.specs.Decimals.{NextDigit, Draws, PutNumber, PutLo
 
 // A whole in the units of a fraction. A number below this has 32 bits.
 const WHOLE: u64 = 4294967296;
+
+// All bits of 32.
+const HIGHEST: u32 = 4294967295;
 
 // Numbers below this, as most are, have five digits at most.
 const SHORT: u32 = 100000;
@@ -72,14 +77,15 @@ pub fn put_prefixed(out: &mut [u8], letter: u8, x: u32) -> Decimal
     }
 }
 
-// "Signed decimals", the least number too.
+// "Signed decimals", the least number too, whose distance from 0 has 32 bits.
 pub fn put_decimal(out: &mut [u8], z: i32) -> Decimal
     ensures { λ r. ⌜ PutNumber (decimal z) (now (out .entry)) (now (out .exit)) r ⌝ }
 {
-    if z < 0 {
-        return put_prefixed(out, b'-', (-(z as i64)) as u32);
+    let x = bits(z);
+    if x < SIGNED_LIMIT {
+        return put_digits(out, x);
     }
-    put_digits(out, z as u32)
+    put_prefixed(out, b'-', HIGHEST - x + 1)
 }
 
 // A number of up to 64 bits: one of 32 bits as above, any other behind the digits of its tenth.

@@ -4,8 +4,8 @@
 use crate::print;
 use crate::task::Task;
 use crate::task::try_file;
+use cells::limits::MAX_FUEL;
 use lambdamix::Mode;
-use machine::limits::MAX_FUEL;
 use reading::bytes;
 use residual::Reply;
 use script::Counts;

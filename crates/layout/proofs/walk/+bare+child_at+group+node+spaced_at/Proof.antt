@@ -226,82 +226,82 @@ spaced-at-returns-6 t c = rw (c .enum-told6 .given .1) (stays (omega arith))
 
 node-returns : (t : ℕ) → node-lts.Need-returns (node-given t) (node-now t) node.Post
 unfolding wordOf stepOf stepWord rows rowAt useOf usesTable
-node-returns t c = 
+node-returns t c =
     value-placed (c .before .before .before .before .before .before .before .before .before .before .args .inputs) (c .before .before .before .before .before .before .before .before .before .before .args .nodes .now .now) (c .before .before .before .before .before .before .before .before .before .before .args .i .0) 0 (node-kind (c .before .before .before .before .before .before .kind .ensures) (c .before .before .before .before .before .before .before .node-word .ensures)) (omega arith) refl refl (rw (toZ-ofZ (record { sfits = c .before .before .before .value .ok }), c .before .before .before .value .ensures, c .before .before .before .before .before .before .before .node-word .ensures) at (c .before .before .decimal-at .ensures))
 
 node-returns-2 : (t : ℕ) → node-lts.Need-returns-2 (node-given t) (node-now t) node.Post
 unfolding wordOf stepOf stepWord rows rowAt useOf usesTable
-node-returns-2 t c = 
+node-returns-2 t c =
     bare-placed (c .before .before .before .before .before .before .before .before .before .before .args .inputs) (c .before .before .before .before .before .before .before .before .before .before .args .nodes .now .now) (c .before .before .before .before .before .before .before .before .before .before .args .i .0) 1 (node-kind (c .before .before .before .before .before .before .kind .ensures) (c .before .before .before .before .before .before .before .node-word .ensures)) (omega arith) refl refl (c .before .before .before .before .row-of .ensures) (rw (c .before .before .before .before .before .before .before .node-word .ensures) at (c .before .before .bare .ensures))
 
 node-returns-3 : (t : ℕ) → node-lts.Need-returns-3 (node-given t) (node-now t) node.Post
 unfolding wordOf stepOf stepWord rows rowAt useOf usesTable
-node-returns-3 t c = 
+node-returns-3 t c =
     bare-placed (c .before .before .before .before .before .before .before .before .before .before .args .inputs) (c .before .before .before .before .before .before .before .before .before .before .args .nodes .now .now) (c .before .before .before .before .before .before .before .before .before .before .args .i .0) 2 (node-kind (c .before .before .before .before .before .before .kind .ensures) (c .before .before .before .before .before .before .before .node-word .ensures)) (omega arith) refl refl (c .before .before .before .before .row-of2 .ensures) (rw (c .before .before .before .before .before .before .before .node-word .ensures) at (c .before .before .bare2 .ensures))
 
 node-returns-4 : (t : ℕ) → node-lts.Need-returns-4 (node-given t) (node-now t) node.Post
 unfolding wordOf stepOf stepWord rows rowAt useOf usesTable wordText inBrackets formerText ascii
-node-returns-4 t c = 
+node-returns-4 t c =
     group-placed (c .before .before .before .before .before .before .before .before .before .before .before .before .before .before .before .args .inputs) (c .before .before .before .before .before .before .before .before .before .before .before .before .before .before .before .args .nodes .now .now) (c .before .before .before .before .before .before .before .before .before .before .before .before .before .before .before .args .i .0) 3 (node-kind (c .before .before .before .before .before .before .before .before .before .before .before .kind .ensures) (c .before .before .before .before .before .before .before .before .before .before .before .before .node-word .ensures)) (omega arith) refl refl refl (c .before .before .before .before .row-of3 .ensures)
     (c .before .before .before .before .before .before .before .text-at .ensures) (rw (c .before .before .before .before .before .before .before .before .before .before .before .before .node-word .ensures) at (c .before .before .group .ensures))
 
 node-returns-5 : (t : ℕ) → node-lts.Need-returns-5 (node-given t) (node-now t) node.Post
 unfolding wordOf stepOf stepWord rows rowAt useOf usesTable wordText inBrackets formerText ascii
-node-returns-5 t c = 
+node-returns-5 t c =
     group-placed (c .before .before .before .before .before .before .before .before .before .before .before .before .before .before .before .args .inputs) (c .before .before .before .before .before .before .before .before .before .before .before .before .before .before .before .args .nodes .now .now) (c .before .before .before .before .before .before .before .before .before .before .before .before .before .before .before .args .i .0) 4 (node-kind (c .before .before .before .before .before .before .before .before .before .before .before .kind .ensures) (c .before .before .before .before .before .before .before .before .before .before .before .before .node-word .ensures)) (omega arith) refl refl refl (c .before .before .before .before .row-of4 .ensures)
     (c .before .before .before .before .before .before .before .text-at2 .ensures) (rw (c .before .before .before .before .before .before .before .before .before .before .before .before .node-word .ensures) at (c .before .before .group2 .ensures))
 
 node-returns-6 : (t : ℕ) → node-lts.Need-returns-6 (node-given t) (node-now t) node.Post
 unfolding wordOf stepOf stepWord rows rowAt useOf usesTable wordText inBrackets formerText ascii
-node-returns-6 t c = 
+node-returns-6 t c =
     group-placed (c .before .before .before .before .before .before .before .before .before .before .before .before .before .before .before .args .inputs) (c .before .before .before .before .before .before .before .before .before .before .before .before .before .before .before .args .nodes .now .now) (c .before .before .before .before .before .before .before .before .before .before .before .before .before .before .before .args .i .0) 5 (node-kind (c .before .before .before .before .before .before .before .before .before .before .before .kind .ensures) (c .before .before .before .before .before .before .before .before .before .before .before .before .node-word .ensures)) (omega arith) refl refl refl (c .before .before .before .before .row-of5 .ensures)
     (c .before .before .before .before .before .before .before .text-at3 .ensures) (rw (c .before .before .before .before .before .before .before .before .before .before .before .before .node-word .ensures) at (c .before .before .group3 .ensures))
 
 node-returns-7 : (t : ℕ) → node-lts.Need-returns-7 (node-given t) (node-now t) node.Post
 unfolding wordOf stepOf stepWord rows rowAt useOf usesTable wordText inBrackets formerText ascii
-node-returns-7 t c = 
+node-returns-7 t c =
     group-placed (c .before .before .before .before .before .before .before .before .before .before .before .before .before .before .before .args .inputs) (c .before .before .before .before .before .before .before .before .before .before .before .before .before .before .before .args .nodes .now .now) (c .before .before .before .before .before .before .before .before .before .before .before .before .before .before .before .args .i .0) 6 (node-kind (c .before .before .before .before .before .before .before .before .before .before .before .kind .ensures) (c .before .before .before .before .before .before .before .before .before .before .before .before .node-word .ensures)) (omega arith) refl refl refl (c .before .before .before .before .row-of6 .ensures)
     (c .before .before .before .before .before .before .before .text-at4 .ensures) (rw (c .before .before .before .before .before .before .before .before .before .before .before .before .node-word .ensures) at (c .before .before .group4 .ensures))
 
 node-returns-8 : (t : ℕ) → node-lts.Need-returns-8 (node-given t) (node-now t) node.Post
 unfolding wordOf stepOf stepWord rows rowAt useOf usesTable wordText inBrackets formerText ascii
-node-returns-8 t c = 
+node-returns-8 t c =
     group-placed (c .before .before .before .before .before .before .before .before .before .before .before .before .before .before .before .args .inputs) (c .before .before .before .before .before .before .before .before .before .before .before .before .before .before .before .args .nodes .now .now) (c .before .before .before .before .before .before .before .before .before .before .before .before .before .before .before .args .i .0) 7 (node-kind (c .before .before .before .before .before .before .before .before .before .before .before .kind .ensures) (c .before .before .before .before .before .before .before .before .before .before .before .before .node-word .ensures)) (omega arith) refl refl refl (c .before .before .before .before .row-of7 .ensures)
     (rw (c .before .before .before .before .before .before .before .before .field-c .ensures, c .before .before .before .before .before .before .before .before .before .before .before .before .node-word .ensures) at (c .before .before .before .before .before .before .before .put-sign .ensures)) (rw (c .before .before .before .before .before .before .before .before .before .before .before .before .node-word .ensures) at (c .before .before .group5 .ensures))
 
 node-returns-9 : (t : ℕ) → node-lts.Need-returns-9 (node-given t) (node-now t) node.Post
 unfolding wordOf stepOf stepWord rows rowAt useOf usesTable wordText inBrackets formerText ascii
-node-returns-9 t c = 
+node-returns-9 t c =
     group-placed (c .before .before .before .before .before .before .before .before .before .before .before .before .before .before .before .args .inputs) (c .before .before .before .before .before .before .before .before .before .before .before .before .before .before .before .args .nodes .now .now) (c .before .before .before .before .before .before .before .before .before .before .before .before .before .before .before .args .i .0) 8 (node-kind (c .before .before .before .before .before .before .before .before .before .before .before .kind .ensures) (c .before .before .before .before .before .before .before .before .before .before .before .before .node-word .ensures)) (omega arith) refl refl refl (c .before .before .before .before .row-of8 .ensures)
     (c .before .before .before .before .before .before .before .text-at5 .ensures) (rw (c .before .before .before .before .before .before .before .before .before .before .before .before .node-word .ensures) at (c .before .before .group6 .ensures))
 
 node-returns-10 : (t : ℕ) → node-lts.Need-returns-10 (node-given t) (node-now t) node.Post
 unfolding wordOf stepOf stepWord rows rowAt useOf usesTable wordText inBrackets formerText ascii
-node-returns-10 t c = 
+node-returns-10 t c =
     group-placed (c .before .before .before .before .before .before .before .before .before .before .before .before .before .before .before .args .inputs) (c .before .before .before .before .before .before .before .before .before .before .before .before .before .before .before .args .nodes .now .now) (c .before .before .before .before .before .before .before .before .before .before .before .before .before .before .before .args .i .0) 9 (node-kind (c .before .before .before .before .before .before .before .before .before .before .before .kind .ensures) (c .before .before .before .before .before .before .before .before .before .before .before .before .node-word .ensures)) (omega arith) refl refl refl (c .before .before .before .before .row-of9 .ensures)
     (c .before .before .before .before .before .before .before .text-at6 .ensures) (rw (c .before .before .before .before .before .before .before .before .before .before .before .before .node-word .ensures) at (c .before .before .group7 .ensures))
 
 node-returns-11 : (t : ℕ) → node-lts.Need-returns-11 (node-given t) (node-now t) node.Post
 unfolding wordOf stepOf stepWord rows rowAt useOf usesTable wordText inBrackets formerText ascii
-node-returns-11 t c = 
+node-returns-11 t c =
     group-placed (c .before .before .before .before .before .before .before .before .before .before .before .before .before .before .before .args .inputs) (c .before .before .before .before .before .before .before .before .before .before .before .before .before .before .before .args .nodes .now .now) (c .before .before .before .before .before .before .before .before .before .before .before .before .before .before .before .args .i .0) 10 (node-kind (c .before .before .before .before .before .before .before .before .before .before .before .kind .ensures) (c .before .before .before .before .before .before .before .before .before .before .before .before .node-word .ensures)) (omega arith) refl refl refl (c .before .before .before .before .row-of10 .ensures)
     (c .before .before .before .before .before .before .before .text-at7 .ensures) (rw (c .before .before .before .before .before .before .before .before .before .before .before .before .node-word .ensures) at (c .before .before .group8 .ensures))
 
 node-returns-12 : (t : ℕ) → node-lts.Need-returns-12 (node-given t) (node-now t) node.Post
 unfolding wordOf stepOf stepWord rows rowAt useOf usesTable wordText inBrackets formerText ascii
-node-returns-12 t c = 
+node-returns-12 t c =
     group-placed (c .before .before .before .before .before .before .before .before .before .before .before .before .before .before .before .args .inputs) (c .before .before .before .before .before .before .before .before .before .before .before .before .before .before .before .args .nodes .now .now) (c .before .before .before .before .before .before .before .before .before .before .before .before .before .before .before .args .i .0) 11 (node-kind (c .before .before .before .before .before .before .before .before .before .before .before .kind .ensures) (c .before .before .before .before .before .before .before .before .before .before .before .before .node-word .ensures)) (omega arith) refl refl refl (c .before .before .before .before .row-of11 .ensures)
     (c .before .before .before .before .before .before .before .text-at8 .ensures) (rw (c .before .before .before .before .before .before .before .before .before .before .before .before .node-word .ensures) at (c .before .before .group9 .ensures))
 
 node-returns-13 : (t : ℕ) → node-lts.Need-returns-13 (node-given t) (node-now t) node.Post
 unfolding wordOf stepOf stepWord rows rowAt useOf usesTable wordText inBrackets formerText ascii
-node-returns-13 t c = 
+node-returns-13 t c =
     group-placed (c .before .before .before .before .before .before .before .before .before .before .before .before .before .before .before .args .inputs) (c .before .before .before .before .before .before .before .before .before .before .before .before .before .before .before .args .nodes .now .now) (c .before .before .before .before .before .before .before .before .before .before .before .before .before .before .before .args .i .0) 12 (node-kind (c .before .before .before .before .before .before .before .before .before .before .before .kind .ensures) (c .before .before .before .before .before .before .before .before .before .before .before .before .node-word .ensures)) (omega arith) refl refl refl (c .before .before .before .before .row-of12 .ensures)
     (rw (c .before .before .before .before .before .before .before .before .field-c2 .ensures, c .before .before .before .before .before .before .before .before .before .before .before .before .node-word .ensures) at (c .before .before .before .before .before .before .before .put-sign2 .ensures)) (rw (c .before .before .before .before .before .before .before .before .before .before .before .before .node-word .ensures) at (c .before .before .group10 .ensures))
 
 node-returns-14 : (t : ℕ) → node-lts.Need-returns-14 (node-given t) (node-now t) node.Post
 unfolding Other
-node-returns-14 t c = 
+node-returns-14 t c =
     value-placed (c .before .before .before .before .before .before .before .before .before .before .args .inputs) (c .before .before .before .before .before .before .before .before .before .before .args .nodes .now .now) (c .before .before .before .before .before .before .before .before .before .before .args .i .0) (c .before .before .before .before .before .before .kind .result) (node-kind (c .before .before .before .before .before .before .kind .ensures) (c .before .before .before .before .before .before .before .node-word .ensures)) refl (past-value _ (c .before .before .before .before .before .match .rest)) (past-uses _ (c .before .before .before .before .before .match .rest))
     (rw (toZ-ofZ (record { sfits = c .before .before .before .value2 .ok }), c .before .before .before .value2 .ensures, c .before .before .before .before .before .before .before .node-word .ensures) at (c .before .before .decimal-at2 .ensures))
 

@@ -36,7 +36,7 @@ put-long-add-rounds : (t : ℕ) → put-long-lts.Need-add-t18 (given t) (put-lon
 put-long-add-rounds t c = omega (arith, long-rounds (c .before .before .before .before .before .before .before .put-long .ensures) (omega (arith, c .before .before .before .before .before .before .before .before .before .before .before .fits .x)))
 
 put-long-returns-2 : (t : ℕ) → put-long-lts.Need-returns-2 (given t) (put-long-at t) put-long.Post
-put-long-returns-2 t c = put-longer (c .before .before .before .before .before .before .before .put-long .ensures) (c .before .before .before .before .before .before .before .before .before .if1 .left) (c .before .before .before .put8 .ensures)
+put-long-returns-2 t c = put-longer (c .before .before .before .before .before .before .before .put-long .ensures) (omega (arith, c .before .before .before .before .before .before .before .before .before .if1 .left)) (c .before .before .before .put8 .ensures)
 
 pub +put-long-spec : {M : Type 1} → statement M
 +put-long-spec =
