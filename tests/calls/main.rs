@@ -7,6 +7,7 @@ mod cases;
 mod ways;
 
 use cases::{case, oddities, ENTRIES};
+use reference::decimal_trials::{listed, Listed};
 use reference::lent::{Answer, Entry, Memory};
 use reference::random::Random;
 use std::collections::BTreeMap;
@@ -65,20 +66,37 @@ fn difference(wanted: &(Answer, Memory), answer: Answer, after: &Memory) -> Opti
 struct Tally {
     numbers: [BTreeMap<usize, usize>; ENTRIES.len()],
     oddities: BTreeMap<&'static str, usize>,
+    decimals: BTreeMap<usize, usize>,
     differences: usize,
 }
 
 impl Tally {
-    fn try_call(&mut self, seed: u64, index: u64) {
-        let (entry, memory) = case(seed, index);
+    /// Compares a call both ways; the number of the reply.
+    fn compare(&mut self, index: u64, entry: Entry, memory: &Memory, random: &mut Random) -> usize {
         let mut end = memory.clone();
         let wanted = (end.call(entry), end);
-        let (answer, after, kept) = by_header(entry, &memory, &mut Random::new(seed, index));
+        let (answer, after, kept) = by_header(entry, memory, random);
         let margin = (!kept).then(|| "a margin was written to".to_string());
         self.tell(index, entry, "header", difference(&wanted, answer, &after).or(margin));
-        let (answer, after) = by_wrapper(entry, &memory);
+        let (answer, after) = by_wrapper(entry, memory);
         self.tell(index, entry, "wrapper", difference(&wanted, answer, &after));
-        *self.numbers[entry as usize].entry(wanted.0.number as usize).or_default() += 1;
+        wanted.0.number as usize
+    }
+
+    /// Lists all numbers and names around the powers of ten, into outputs that fit, are longer, and are one byte short.
+    fn try_decimals(&mut self, seed: u64) {
+        for Listed { script, text, .. } in listed() {
+            for room in [text.len(), text.len() + 3, text.len() - 1] {
+                let number = self.compare(room as u64, Entry::List, &Memory::of(&script, room), &mut Random::new(seed, 0));
+                *self.decimals.entry(number).or_default() += 1;
+            }
+        }
+    }
+
+    fn try_call(&mut self, seed: u64, index: u64) {
+        let (entry, memory) = case(seed, index);
+        let number = self.compare(index, entry, &memory, &mut Random::new(seed, index));
+        *self.numbers[entry as usize].entry(number).or_default() += 1;
         for (name, holds) in oddities(entry, &memory) {
             *self.oddities.entry(name).or_default() += usize::from(holds);
         }
@@ -106,6 +124,7 @@ impl Tally {
         for (name, often) in &self.oddities {
             println!("{name}: {often}");
         }
+        println!("listings of decimals around the powers of ten, by their numbers: {:?}", self.decimals);
         let differences = self.differences;
         println!("{tried} calls, by the header and by the wrapper: {differences} differences, {missing} not tried");
         differences + missing == 0
@@ -119,6 +138,7 @@ fn main() -> ExitCode {
         return ExitCode::from(2);
     };
     let mut tally = Tally::default();
+    tally.try_decimals(seed);
     for index in 0..count {
         tally.try_call(seed, index);
         if tally.differences > 20 {

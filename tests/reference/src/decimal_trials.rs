@@ -351,25 +351,43 @@ fn name_trials(tally: &mut Tally) {
     tally.trial("every name", wrong, vec![]);
 }
 
-/// Scripts that hold a whole table, listed: early and late numbers, and names. Then in an output that fits, is longer or is short.
-fn listing_trials(tally: &mut Tally) {
+/// A script with its listing.
+pub struct Listed {
+    pub script: Script,
+    pub text: String,
+    name: &'static str,
+}
+
+/// Scripts that hold a whole table: early and late numbers, thresholds, and names.
+pub fn listed() -> Vec<Listed> {
+    let line = |name: &'static str, script: Script, text: String| Listed {
+        script,
+        text: text + "\n",
+        name,
+    };
+    let part = |name: &'static str, inputs: &[u16], (term, text): Part| {
+        line(name, script(inputs, &term), text)
+    };
     let early: Vec<Part> =
         numbers().into_iter().map(|(value, text)| (constant(value), text)).collect();
-    let late = all_added();
-    let mut listed = |name: &str, script: &Script, text: &str| {
-        let read = read(&encode(script)).map(|script| listing(&script));
-        tally.trial(&format!("{name}, listed"), read, Ok(format!("{text}\n")));
-    };
-    let (term, text) = added(operation, &early);
-    listed("early numbers", &script(&[], &term), &text);
-    listed("late numbers", &script(&[], &late.0), &late.1);
-    let (term, text) = all_thresholds();
-    listed("thresholds", &script(&[D], &term), &text);
-    let (names, [text, _]) = inputs_and_binders();
-    listed("all names, 16 inputs", &names, &text);
-    let (names, [text, _]) = called_binders();
-    listed("all names, no inputs", &names, &text);
+    let (sixteen, [sixteen_text, _]) = inputs_and_binders();
+    let (called, [called_text, _]) = called_binders();
+    vec![
+        part("early numbers", &[], added(operation, &early)),
+        part("late numbers", &[], all_added()),
+        part("thresholds", &[D], all_thresholds()),
+        line("all names, 16 inputs", sixteen, sixteen_text),
+        line("all names, no inputs", called, called_text),
+    ]
+}
 
+/// Whole tables, listed. Then in an output that fits, is longer or is short.
+fn listing_trials(tally: &mut Tally) {
+    for Listed { script, text, name } in listed() {
+        let read = read(&encode(&script)).map(|script| listing(&script));
+        tally.trial(&format!("{name}, listed"), read, Ok(text));
+    }
+    let late = all_added();
     let line = late.1 + "\n";
     let length = line.len();
     let lent = |room: usize| {
