@@ -17,7 +17,6 @@ use Rattle.script.specs.Words.{wordKind, wordA, wordB, wordC, wordValue}
 use Rattle.script.proofs.TableLaws.{Other, past, past-rows, blank-row}
 use Rattle.text.specs.Places.{Placed}
 use Rattle.text.proofs.Digits.{one-digit}
-use Rattle.text.proofs.Writing.{join}
 use Rattle.layout.specs.Nodes.{Word, Value, Bare, stepWord, wordOf, wordText, inBrackets, framed, fieldText, fieldsText, rowText, nodeText}
 use Rattle.layout.specs.Nodes.{nodesText, wordNode, wordsText, childText}
 
@@ -74,9 +73,10 @@ module _ (n : ℕ) (ws : List ℕ) (i m : ℕ) {k : ℕ} (kind : k ≡ wordKind 
 
   -- a word and fields in brackets
   pub group-placed :
-      {w : Word} {r : Row} {head : List ℕ} {p : ℕ} {z : List ℕ} → wordOf m ≡ w → inBrackets w ≡ true →
+      {w : Word} {r : Row} {head : List ℕ} → wordOf m ≡ w → inBrackets w ≡ true →
       head ≡ 40 ∷ wordText w (wordC (getD ws i 0)) (wordValue (getD ws i 0)) → r ≡ rowAt m →
-      Placed head 0 x z p → Placed (fieldsText n (childText n ws i) true r (wordA (getD ws i 0)) (wordB (getD ws i 0)) (wordC (getD ws i 0)) ++ (41 ∷ [])) p z y e →
+      Placed
+      (head ++ (fieldsText n (childText n ws i) true r (wordA (getD ws i 0)) (wordB (getD ws i 0)) (wordC (getD ws i 0)) ++ (41 ∷ []))) 0 x y e →
       Placed (wordsText n ws i) 0 x y e
   unfolding framed
-  group-placed w b h r f g = by-row w r (rw b (join (rw h at f) g))
+  group-placed w b h r g = by-row w r (rw b (rw h at g))

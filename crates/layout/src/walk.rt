@@ -23,6 +23,8 @@ use text::parts::letter_at;
 use text::parts::text_at;
 ghost use mathlib.Core.Bool.{true, false};
 ghost use mathlib.Core.List.{_++_, [], _∷_};
+ghost use Rattle.lambdamix.specs.Term.{operatorOf};
+ghost use Rattle.lambdamix.specs.Listing.{operatorText};
 ghost use Rattle.script.specs.Words.{wordA, wordB, wordC};
 ghost use Rattle.text.specs.Places.{Placed};
 ghost use Rattle.layout.specs.Nodes.{fieldText, fieldsText, wordsText, childText, wholeText};
@@ -36,46 +38,16 @@ fn node(nodes: &&[u64], inputs: u16, i: NodeNumber, out: &mut [u8]) -> usize
         0 => decimal_at(out, 0, value(w)),
         1 => bare(nodes, inputs, i, w, row_of(1), out),
         2 => bare(nodes, inputs, i, w, row_of(2), out),
-        3 => {
-            let head = text_at(out, 0, b"(lam");
-            group(nodes, inputs, i, w, row_of(3), out, head)
-        }
-        4 => {
-            let head = text_at(out, 0, b"(app");
-            group(nodes, inputs, i, w, row_of(4), out, head)
-        }
-        5 => {
-            let head = text_at(out, 0, b"(fix");
-            group(nodes, inputs, i, w, row_of(5), out, head)
-        }
-        6 => {
-            let head = text_at(out, 0, b"(if");
-            group(nodes, inputs, i, w, row_of(6), out, head)
-        }
-        7 => {
-            let head = put_sign(out, field_c(w));
-            group(nodes, inputs, i, w, row_of(7), out, head)
-        }
-        8 => {
-            let head = text_at(out, 0, b"(lam");
-            group(nodes, inputs, i, w, row_of(8), out, head)
-        }
-        9 => {
-            let head = text_at(out, 0, b"(app");
-            group(nodes, inputs, i, w, row_of(9), out, head)
-        }
-        10 => {
-            let head = text_at(out, 0, b"(fix");
-            group(nodes, inputs, i, w, row_of(10), out, head)
-        }
-        11 => {
-            let head = text_at(out, 0, b"(if");
-            group(nodes, inputs, i, w, row_of(11), out, head)
-        }
-        12 => {
-            let head = put_sign(out, field_c(w));
-            group(nodes, inputs, i, w, row_of(12), out, head)
-        }
+        3 => worded(nodes, inputs, i, w, row_of(3), b"(lam", out),
+        4 => worded(nodes, inputs, i, w, row_of(4), b"(app", out),
+        5 => worded(nodes, inputs, i, w, row_of(5), b"(fix", out),
+        6 => worded(nodes, inputs, i, w, row_of(6), b"(if", out),
+        7 => operation(nodes, inputs, i, w, row_of(7), out),
+        8 => worded(nodes, inputs, i, w, row_of(8), b"(lam", out),
+        9 => worded(nodes, inputs, i, w, row_of(9), b"(app", out),
+        10 => worded(nodes, inputs, i, w, row_of(10), b"(fix", out),
+        11 => worded(nodes, inputs, i, w, row_of(11), b"(if", out),
+        12 => operation(nodes, inputs, i, w, row_of(12), out),
         _ => decimal_at(out, 0, value(w)),
     }
 }
@@ -94,6 +66,30 @@ fn bare(nodes: &&[u64], inputs: u16, i: NodeNumber, w: u64, row: Row, out: &mut 
         Use::ParameterType => 0,
         Use::Operation => 0,
     }
+}
+
+// The text of node i, in word w, that begins with a bracket and a word.
+fn worded(
+    nodes: &&[u64],
+    inputs: u16,
+    i: NodeNumber,
+    w: u64,
+    row: Row,
+    word: &[u8],
+    out: &mut [u8],
+) -> usize
+    ensures { λ r. ⌜ Placed (now (word .entry) ++ (fieldsText inputs (childText inputs (now (now (nodes .entry))) (i .0)) true row (wordA w) (wordB w) (wordC w) ++ (41 ∷ []))) 0 (now (out .entry)) (now (out .exit)) r ⌝ }
+{
+    let head = text_at(out, 0, word);
+    group(nodes, inputs, i, w, row, out, head)
+}
+
+// The text of an operation, node i in word w.
+fn operation(nodes: &&[u64], inputs: u16, i: NodeNumber, w: u64, row: Row, out: &mut [u8]) -> usize
+    ensures { λ r. ⌜ Placed ((40 ∷ operatorText (operatorOf (wordC w))) ++ (fieldsText inputs (childText inputs (now (now (nodes .entry))) (i .0)) true row (wordA w) (wordB w) (wordC w) ++ (41 ∷ []))) 0 (now (out .entry)) (now (out .exit)) r ⌝ }
+{
+    let head = put_sign(out, field_c(w));
+    group(nodes, inputs, i, w, row, out, head)
 }
 
 // The fields of node i, in word w, behind its word and up to the closing bracket; gives the next place.

@@ -8,7 +8,8 @@ use lib.ListN.{length, set, length-append}
 use Rattle.lambdamix.specs.Text.{digits}
 use Rattle.text.specs.declared.Decimal.{Decimal}
 use Rattle.text.specs.Places.{Put}
-use Rattle.text.specs.Decimals.{mostRounds, NextDigit, passed-over, stands, Fraction, Draws, PutNumber, PutLong}
+use Rattle.text.specs.Decimals.{mostRounds, PutNumber, PutLong}
+use Rattle.text.specs.Drawing.{NextDigit, passed-over, stands, Fraction, Draws}
 use Rattle.text.proofs.Digits.{one-digit, last-digit, digits-within}
 use Rattle.text.proofs.Writing.{put-none, put-last}
 

@@ -1,9 +1,7 @@
 -- What the writers of numbers promise: the decimal stands, and "for one number all loops together take at most ten rounds" (paper 02, 2.3). Assumes
 -- nothing.
-use Prim.Native.Nat.{ℕ, suc, _+_, _*_, _^_, _≤_, _<_}
-use mathlib.Core.Path.{_≡_}
+use Prim.Native.Nat.{ℕ, _+_, _*_, _^_, _≤_, _<_}
 use mathlib.Core.List.{List}
-use lib.ListN.{set}
 use Rattle.lambdamix.specs.Text.{digits}
 use Rattle.text.specs.declared.Decimal.{Decimal}
 use Rattle.text.specs.Places.{Put}
@@ -21,21 +19,3 @@ pub record PutNumber (text before after : List ℕ) (r : Decimal) : Type 0 where
 pub record PutLong (x : ℕ) (before after : List ℕ) (r : Decimal) : Type 0 where
   pub put : Put (digits x) before after (r .length)
   pub rounds : (k : ℕ) → x < 4294967296 * 10 ^ k → r .rounds ≤ mostRounds + k
-
--- ---- one digit after the other
-
--- a digit d behind n bytes, and how many stand then: a zero in front of all others is passed over
-pub data NextDigit (d : ℕ) : ℕ → List ℕ → List ℕ → ℕ → Type 0 where
-  passed-over : {n : ℕ} {x : List ℕ} → d ≡ 0 → n ≡ 0 → NextDigit d n x x n
-  stands : {n : ℕ} {x y : List ℕ} → (d ≡ 0 → 1 ≤ n) → y ≡ set x n (48 + d) → NextDigit d n x y (n + 1)
-
--- t in units of 2^-32 is the fraction x / 10^k, which is below ten, and less than one of x too large
-pub record Fraction (t k x : ℕ) : Type 0 where
-  pub below : x < 10 ^ suc k
-  pub low : 4294967296 * x ≤ t * 10 ^ k
-  pub high : t * 10 ^ k < 4294967296 * suc x
-
--- the digits of the number that a fraction is of are put, in as many rounds as digits follow its first
-pub record Draws (t k : ℕ) (before after : List ℕ) (r : Decimal) : Type 0 where
-  pub put : (x : ℕ) → Fraction t k x → Put (digits x) before after (r .length)
-  pub rounds : r .rounds ≡ k

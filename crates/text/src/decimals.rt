@@ -11,7 +11,8 @@ ghost use Prim.Native.Nat.{_<_};
 ghost use mathlib.Core.List.{_∷_};
 ghost use Rattle.lambdamix.specs.Text.{digits, decimal};
 ghost use Rattle.text.specs.Places.{Placed};
-ghost use Rattle.text.specs.Decimals.{NextDigit, Draws, PutNumber, PutLong};
+ghost use Rattle.text.specs.Decimals.{PutNumber, PutLong};
+ghost use Rattle.text.specs.Drawing.{NextDigit, Draws};
 
 // A whole in the units of a fraction. A number below this has 32 bits.
 const WHOLE: u64 = 4294967296;
@@ -54,7 +55,7 @@ fn put_drawn(out: &mut [u8], fraction: u64, rounds: usize) -> Decimal
     }
 }
 
-// A number in decimal, without leading zeros.
+// A number in decimal, without leading zeros: the fraction of its first digit's power of ten, 10^4 or 10^9, rounded up.
 pub fn put_digits(out: &mut [u8], x: u32) -> Decimal
     ensures { λ r. ⌜ PutNumber (digits x) (now (out .entry)) (now (out .exit)) r ⌝ }
 {

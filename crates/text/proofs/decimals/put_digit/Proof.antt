@@ -1,7 +1,7 @@
 -- `text::decimals::put_digit` meets its contract. Assumes nothing.
 use borrow.Author.Needs.{needs}
 use native.Mathlib.Omega.{arith}
-use Rattle.text.specs.Decimals.{passed-over, stands}
+use Rattle.text.specs.Drawing.{passed-over, stands}
 use Rattle.text.proofs.decimals.put_digit.Statement.{statement}
 use Rattle.text.proofs.decimals.put_digit.Tie as tie
 

@@ -5,7 +5,7 @@ use Prim.Native.Nat.{ℕ, suc, _+_, _-_, _≤_, _<_}
 use mathlib.Core.Path.{_≡_, refl, sym, _∙_}
 use native.Mathlib.Omega.{arith}
 use lib.ListN.{length}
-use Rattle.text.specs.Decimals.{Fraction}
+use Rattle.text.specs.Drawing.{Fraction}
 use Rattle.text.proofs.Rounds.{Standing, none-stands, round-stands, next-length, all-stand}
 use Rattle.text.proofs.decimals.put_drawn.Statement.{statement}
 use Rattle.text.proofs.decimals.put_drawn.Tie as tie

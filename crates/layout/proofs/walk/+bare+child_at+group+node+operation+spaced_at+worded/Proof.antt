@@ -1,4 +1,4 @@
--- The walk meets its contracts, and ends: six times the node's number, and more for each call on the way from a child back to its node. Assumes nothing.
+-- The walk meets its contracts, and ends: five times the node's number, and more for each call on the way from a child back to its node. Assumes nothing.
 use borrow.Author.Needs.{needs}
 use mathlib.Core.Path.{refl}
 use native.Mathlib.Omega.{arith}
@@ -17,19 +17,25 @@ use borrow.Fn.Kinds.{In}
 use borrow.Fn.PlainCycle.{Measures, is, falls, and}
 use Rattle.layout.proofs.walk.bare.Reads as bare
 use Rattle.layout.proofs.walk.bare.Kinds as bare-kinds
-use Rattle.layout.proofs.walk.+bare+child_at+group+node+spaced_at.Lts-bare as bare-lts
+use Rattle.layout.proofs.walk.+bare+child_at+group+node+operation+spaced_at+worded.Lts-bare as bare-lts
 use Rattle.layout.proofs.walk.child_at.Reads as child-at
 use Rattle.layout.proofs.walk.child_at.Kinds as child-at-kinds
-use Rattle.layout.proofs.walk.+bare+child_at+group+node+spaced_at.Lts-child_at as child-at-lts
+use Rattle.layout.proofs.walk.+bare+child_at+group+node+operation+spaced_at+worded.Lts-child_at as child-at-lts
 use Rattle.layout.proofs.walk.group.Reads as group
 use Rattle.layout.proofs.walk.group.Kinds as group-kinds
-use Rattle.layout.proofs.walk.+bare+child_at+group+node+spaced_at.Lts-group as group-lts
+use Rattle.layout.proofs.walk.+bare+child_at+group+node+operation+spaced_at+worded.Lts-group as group-lts
 use Rattle.layout.proofs.walk.node.Reads as node
 use Rattle.layout.proofs.walk.node.Kinds as node-kinds
-use Rattle.layout.proofs.walk.+bare+child_at+group+node+spaced_at.Lts-node as node-lts
+use Rattle.layout.proofs.walk.+bare+child_at+group+node+operation+spaced_at+worded.Lts-node as node-lts
+use Rattle.layout.proofs.walk.operation.Reads as operation
+use Rattle.layout.proofs.walk.operation.Kinds as operation-kinds
+use Rattle.layout.proofs.walk.+bare+child_at+group+node+operation+spaced_at+worded.Lts-operation as operation-lts
 use Rattle.layout.proofs.walk.spaced_at.Reads as spaced-at
 use Rattle.layout.proofs.walk.spaced_at.Kinds as spaced-at-kinds
-use Rattle.layout.proofs.walk.+bare+child_at+group+node+spaced_at.Lts-spaced_at as spaced-at-lts
+use Rattle.layout.proofs.walk.+bare+child_at+group+node+operation+spaced_at+worded.Lts-spaced_at as spaced-at-lts
+use Rattle.layout.proofs.walk.worded.Reads as worded
+use Rattle.layout.proofs.walk.worded.Kinds as worded-kinds
+use Rattle.layout.proofs.walk.+bare+child_at+group+node+operation+spaced_at+worded.Lts-worded as worded-lts
 use Rattle.layout.proofs.words.name_at.Reads as name-at-reads
 use Rattle.layout.proofs.words.put_sign.Reads as put-sign-reads
 use Rattle.script.proofs.kinds.row_of.Reads as row-of-reads
@@ -44,23 +50,29 @@ use Rattle.text.proofs.parts.further.Reads as further-reads
 use Rattle.text.proofs.parts.least.Reads as least-reads
 use Rattle.text.proofs.parts.letter_at.Reads as letter-at-reads
 use Rattle.text.proofs.parts.text_at.Reads as text-at-reads
-use Rattle.layout.proofs.walk.+bare+child_at+group+node+spaced_at.{statement}
-use Rattle.layout.proofs.walk.+bare+child_at+group+node+spaced_at.Tie.{close}
+use Rattle.layout.proofs.walk.+bare+child_at+group+node+operation+spaced_at+worded.{statement}
+use Rattle.layout.proofs.walk.+bare+child_at+group+node+operation+spaced_at+worded.Tie.{close}
 
 abbrev μ-bare : Measures 3 bare-kinds.ps ℕ
-μ-bare κs a = 4 * a .1 .1 .0 .0 + 1
+μ-bare κs a = 5 * a .1 .1 .0 .0 + 1
 
 abbrev μ-child-at : Measures 3 child-at-kinds.ps ℕ
-μ-child-at κs a = 4 * a .1 .1 .0 .0
+μ-child-at κs a = 5 * a .1 .1 .0 .0
 
 abbrev μ-group : Measures 3 group-kinds.ps ℕ
-μ-group κs a = 4 * a .1 .1 .0 .0 + 2
+μ-group κs a = 5 * a .1 .1 .0 .0 + 2
 
 abbrev μ-node : Measures 3 node-kinds.ps ℕ
-μ-node κs a = 4 * a .1 .1 .0 .0 + 3
+μ-node κs a = 5 * a .1 .1 .0 .0 + 4
+
+abbrev μ-operation : Measures 3 operation-kinds.ps ℕ
+μ-operation κs a = 5 * a .1 .1 .0 .0 + 3
 
 abbrev μ-spaced-at : Measures 3 spaced-at-kinds.ps ℕ
-μ-spaced-at κs a = 4 * a .1 .1 .0 .0 + 1
+μ-spaced-at κs a = 5 * a .1 .1 .0 .0 + 1
+
+abbrev μ-worded : Measures 4 worded-kinds.ps ℕ
+μ-worded κs a = 5 * a .1 .1 .0 .0 + 3
 
 abbrev bare-now : ℕ → In 3 bare-kinds.ps
 bare-now t = and 3 bare-kinds.ps (is 3 bare-kinds.ps μ-bare t) bare.Pre
@@ -86,11 +98,23 @@ node-now t = and 3 node-kinds.ps (is 3 node-kinds.ps μ-node t) node.Pre
 abbrev node-below : ℕ → In 3 node-kinds.ps
 node-below t = and 3 node-kinds.ps (falls 3 node-kinds.ps _<_ μ-node t) node.Pre
 
+abbrev operation-now : ℕ → In 3 operation-kinds.ps
+operation-now t = and 3 operation-kinds.ps (is 3 operation-kinds.ps μ-operation t) operation.Pre
+
+abbrev operation-below : ℕ → In 3 operation-kinds.ps
+operation-below t = and 3 operation-kinds.ps (falls 3 operation-kinds.ps _<_ μ-operation t) operation.Pre
+
 abbrev spaced-at-now : ℕ → In 3 spaced-at-kinds.ps
 spaced-at-now t = and 3 spaced-at-kinds.ps (is 3 spaced-at-kinds.ps μ-spaced-at t) spaced-at.Pre
 
 abbrev spaced-at-below : ℕ → In 3 spaced-at-kinds.ps
 spaced-at-below t = and 3 spaced-at-kinds.ps (falls 3 spaced-at-kinds.ps _<_ μ-spaced-at t) spaced-at.Pre
+
+abbrev worded-now : ℕ → In 4 worded-kinds.ps
+worded-now t = and 4 worded-kinds.ps (is 4 worded-kinds.ps μ-worded t) worded.Pre
+
+abbrev worded-below : ℕ → In 4 worded-kinds.ps
+worded-below t = and 4 worded-kinds.ps (falls 4 worded-kinds.ps _<_ μ-worded t) worded.Pre
 
 -- what the calls of each are given
 abbrev bare-given : ℕ → bare-lts.Claims
@@ -143,14 +167,20 @@ node-given t = (
   row-of-reads.Learnt,
   bare-below t,
   bare.Post,
-  text-at-reads.Asked,
-  text-at-reads.Learnt,
-  group-below t,
-  group.Post,
+  worded-below t,
+  worded.Post,
+  operation-below t,
+  operation.Post,
+)
+
+abbrev operation-given : ℕ → operation-lts.Claims
+operation-given t = (
   field-c-reads.Asked,
   field-c-reads.Learnt,
   put-sign-reads.Asked,
   put-sign-reads.Learnt,
+  group-below t,
+  group.Post,
 )
 
 abbrev spaced-at-given : ℕ → spaced-at-lts.Claims
@@ -161,6 +191,14 @@ spaced-at-given t = (
   name-at-reads.Learnt,
   child-at-below t,
   child-at.Post,
+)
+
+abbrev worded-given : ℕ → worded-lts.Claims
+worded-given t = (
+  text-at-reads.Asked,
+  text-at-reads.Learnt,
+  group-below t,
+  group.Post,
 )
 
 bare-returns : (t : ℕ) → bare-lts.Need-returns (bare-given t) (bare-now t) bare.Post
@@ -224,6 +262,12 @@ spaced-at-returns-6 : (t : ℕ) → spaced-at-lts.Need-returns-6 (spaced-at-give
 unfolding fieldText framed
 spaced-at-returns-6 t c = rw (c .enum-told6 .given .1) (stays (omega arith))
 
+operation-returns : (t : ℕ) → operation-lts.Need-returns (operation-given t) (operation-now t) operation.Post
+operation-returns t c = join (rw (c .before .before .before .before .before .before .before .field-c .ensures) at (c .before .before .before .before .before .before .put-sign .ensures)) (c .before .before .group .ensures)
+
+worded-returns : (t : ℕ) → worded-lts.Need-returns (worded-given t) (worded-now t) worded.Post
+worded-returns t c = join (c .before .before .before .before .before .before .text-at .ensures) (c .before .before .group .ensures)
+
 node-returns : (t : ℕ) → node-lts.Need-returns (node-given t) (node-now t) node.Post
 unfolding wordOf stepOf stepWord rows rowAt useOf usesTable
 node-returns t c =
@@ -242,62 +286,62 @@ node-returns-3 t c =
 node-returns-4 : (t : ℕ) → node-lts.Need-returns-4 (node-given t) (node-now t) node.Post
 unfolding wordOf stepOf stepWord rows rowAt useOf usesTable wordText inBrackets formerText ascii
 node-returns-4 t c =
-    group-placed (c .before .before .before .before .before .before .before .before .before .before .before .before .before .before .before .args .inputs) (c .before .before .before .before .before .before .before .before .before .before .before .before .before .before .before .args .nodes .now .now) (c .before .before .before .before .before .before .before .before .before .before .before .before .before .before .before .args .i .0) 3 (node-kind (c .before .before .before .before .before .before .before .before .before .before .before .kind .ensures) (c .before .before .before .before .before .before .before .before .before .before .before .before .node-word .ensures)) (omega arith) refl refl refl (c .before .before .before .before .row-of3 .ensures)
-    (c .before .before .before .before .before .before .before .text-at .ensures) (rw (c .before .before .before .before .before .before .before .before .before .before .before .before .node-word .ensures) at (c .before .before .group .ensures))
+    group-placed (c .before .before .before .before .before .before .before .before .before .before .before .args .inputs) (c .before .before .before .before .before .before .before .before .before .before .before .args .nodes .now .now) (c .before .before .before .before .before .before .before .before .before .before .before .args .i .0) 3 (node-kind (c .before .before .before .before .before .before .before .kind .ensures) (c .before .before .before .before .before .before .before .before .node-word .ensures)) (omega arith) refl refl refl (c .before .before .before .before .before .row-of3 .ensures)
+    (rw (c .before .before .before .before .before .before .before .before .node-word .ensures) at (c .before .before .worded .ensures))
 
 node-returns-5 : (t : ℕ) → node-lts.Need-returns-5 (node-given t) (node-now t) node.Post
 unfolding wordOf stepOf stepWord rows rowAt useOf usesTable wordText inBrackets formerText ascii
 node-returns-5 t c =
-    group-placed (c .before .before .before .before .before .before .before .before .before .before .before .before .before .before .before .args .inputs) (c .before .before .before .before .before .before .before .before .before .before .before .before .before .before .before .args .nodes .now .now) (c .before .before .before .before .before .before .before .before .before .before .before .before .before .before .before .args .i .0) 4 (node-kind (c .before .before .before .before .before .before .before .before .before .before .before .kind .ensures) (c .before .before .before .before .before .before .before .before .before .before .before .before .node-word .ensures)) (omega arith) refl refl refl (c .before .before .before .before .row-of4 .ensures)
-    (c .before .before .before .before .before .before .before .text-at2 .ensures) (rw (c .before .before .before .before .before .before .before .before .before .before .before .before .node-word .ensures) at (c .before .before .group2 .ensures))
+    group-placed (c .before .before .before .before .before .before .before .before .before .before .before .args .inputs) (c .before .before .before .before .before .before .before .before .before .before .before .args .nodes .now .now) (c .before .before .before .before .before .before .before .before .before .before .before .args .i .0) 4 (node-kind (c .before .before .before .before .before .before .before .kind .ensures) (c .before .before .before .before .before .before .before .before .node-word .ensures)) (omega arith) refl refl refl (c .before .before .before .before .before .row-of4 .ensures)
+    (rw (c .before .before .before .before .before .before .before .before .node-word .ensures) at (c .before .before .worded2 .ensures))
 
 node-returns-6 : (t : ℕ) → node-lts.Need-returns-6 (node-given t) (node-now t) node.Post
 unfolding wordOf stepOf stepWord rows rowAt useOf usesTable wordText inBrackets formerText ascii
 node-returns-6 t c =
-    group-placed (c .before .before .before .before .before .before .before .before .before .before .before .before .before .before .before .args .inputs) (c .before .before .before .before .before .before .before .before .before .before .before .before .before .before .before .args .nodes .now .now) (c .before .before .before .before .before .before .before .before .before .before .before .before .before .before .before .args .i .0) 5 (node-kind (c .before .before .before .before .before .before .before .before .before .before .before .kind .ensures) (c .before .before .before .before .before .before .before .before .before .before .before .before .node-word .ensures)) (omega arith) refl refl refl (c .before .before .before .before .row-of5 .ensures)
-    (c .before .before .before .before .before .before .before .text-at3 .ensures) (rw (c .before .before .before .before .before .before .before .before .before .before .before .before .node-word .ensures) at (c .before .before .group3 .ensures))
+    group-placed (c .before .before .before .before .before .before .before .before .before .before .before .args .inputs) (c .before .before .before .before .before .before .before .before .before .before .before .args .nodes .now .now) (c .before .before .before .before .before .before .before .before .before .before .before .args .i .0) 5 (node-kind (c .before .before .before .before .before .before .before .kind .ensures) (c .before .before .before .before .before .before .before .before .node-word .ensures)) (omega arith) refl refl refl (c .before .before .before .before .before .row-of5 .ensures)
+    (rw (c .before .before .before .before .before .before .before .before .node-word .ensures) at (c .before .before .worded3 .ensures))
 
 node-returns-7 : (t : ℕ) → node-lts.Need-returns-7 (node-given t) (node-now t) node.Post
 unfolding wordOf stepOf stepWord rows rowAt useOf usesTable wordText inBrackets formerText ascii
 node-returns-7 t c =
-    group-placed (c .before .before .before .before .before .before .before .before .before .before .before .before .before .before .before .args .inputs) (c .before .before .before .before .before .before .before .before .before .before .before .before .before .before .before .args .nodes .now .now) (c .before .before .before .before .before .before .before .before .before .before .before .before .before .before .before .args .i .0) 6 (node-kind (c .before .before .before .before .before .before .before .before .before .before .before .kind .ensures) (c .before .before .before .before .before .before .before .before .before .before .before .before .node-word .ensures)) (omega arith) refl refl refl (c .before .before .before .before .row-of6 .ensures)
-    (c .before .before .before .before .before .before .before .text-at4 .ensures) (rw (c .before .before .before .before .before .before .before .before .before .before .before .before .node-word .ensures) at (c .before .before .group4 .ensures))
+    group-placed (c .before .before .before .before .before .before .before .before .before .before .before .args .inputs) (c .before .before .before .before .before .before .before .before .before .before .before .args .nodes .now .now) (c .before .before .before .before .before .before .before .before .before .before .before .args .i .0) 6 (node-kind (c .before .before .before .before .before .before .before .kind .ensures) (c .before .before .before .before .before .before .before .before .node-word .ensures)) (omega arith) refl refl refl (c .before .before .before .before .before .row-of6 .ensures)
+    (rw (c .before .before .before .before .before .before .before .before .node-word .ensures) at (c .before .before .worded4 .ensures))
 
 node-returns-8 : (t : ℕ) → node-lts.Need-returns-8 (node-given t) (node-now t) node.Post
 unfolding wordOf stepOf stepWord rows rowAt useOf usesTable wordText inBrackets formerText ascii
 node-returns-8 t c =
-    group-placed (c .before .before .before .before .before .before .before .before .before .before .before .before .before .before .before .args .inputs) (c .before .before .before .before .before .before .before .before .before .before .before .before .before .before .before .args .nodes .now .now) (c .before .before .before .before .before .before .before .before .before .before .before .before .before .before .before .args .i .0) 7 (node-kind (c .before .before .before .before .before .before .before .before .before .before .before .kind .ensures) (c .before .before .before .before .before .before .before .before .before .before .before .before .node-word .ensures)) (omega arith) refl refl refl (c .before .before .before .before .row-of7 .ensures)
-    (rw (c .before .before .before .before .before .before .before .before .field-c .ensures, c .before .before .before .before .before .before .before .before .before .before .before .before .node-word .ensures) at (c .before .before .before .before .before .before .before .put-sign .ensures)) (rw (c .before .before .before .before .before .before .before .before .before .before .before .before .node-word .ensures) at (c .before .before .group5 .ensures))
+    group-placed (c .before .before .before .before .before .before .before .before .before .before .args .inputs) (c .before .before .before .before .before .before .before .before .before .before .args .nodes .now .now) (c .before .before .before .before .before .before .before .before .before .before .args .i .0) 7 (node-kind (c .before .before .before .before .before .before .kind .ensures) (c .before .before .before .before .before .before .before .node-word .ensures)) (omega arith) refl refl refl (c .before .before .before .before .row-of7 .ensures)
+    (rw (c .before .before .before .before .before .before .before .node-word .ensures) at (c .before .before .operation .ensures))
 
 node-returns-9 : (t : ℕ) → node-lts.Need-returns-9 (node-given t) (node-now t) node.Post
 unfolding wordOf stepOf stepWord rows rowAt useOf usesTable wordText inBrackets formerText ascii
 node-returns-9 t c =
-    group-placed (c .before .before .before .before .before .before .before .before .before .before .before .before .before .before .before .args .inputs) (c .before .before .before .before .before .before .before .before .before .before .before .before .before .before .before .args .nodes .now .now) (c .before .before .before .before .before .before .before .before .before .before .before .before .before .before .before .args .i .0) 8 (node-kind (c .before .before .before .before .before .before .before .before .before .before .before .kind .ensures) (c .before .before .before .before .before .before .before .before .before .before .before .before .node-word .ensures)) (omega arith) refl refl refl (c .before .before .before .before .row-of8 .ensures)
-    (c .before .before .before .before .before .before .before .text-at5 .ensures) (rw (c .before .before .before .before .before .before .before .before .before .before .before .before .node-word .ensures) at (c .before .before .group6 .ensures))
+    group-placed (c .before .before .before .before .before .before .before .before .before .before .before .args .inputs) (c .before .before .before .before .before .before .before .before .before .before .before .args .nodes .now .now) (c .before .before .before .before .before .before .before .before .before .before .before .args .i .0) 8 (node-kind (c .before .before .before .before .before .before .before .kind .ensures) (c .before .before .before .before .before .before .before .before .node-word .ensures)) (omega arith) refl refl refl (c .before .before .before .before .before .row-of8 .ensures)
+    (rw (c .before .before .before .before .before .before .before .before .node-word .ensures) at (c .before .before .worded5 .ensures))
 
 node-returns-10 : (t : ℕ) → node-lts.Need-returns-10 (node-given t) (node-now t) node.Post
 unfolding wordOf stepOf stepWord rows rowAt useOf usesTable wordText inBrackets formerText ascii
 node-returns-10 t c =
-    group-placed (c .before .before .before .before .before .before .before .before .before .before .before .before .before .before .before .args .inputs) (c .before .before .before .before .before .before .before .before .before .before .before .before .before .before .before .args .nodes .now .now) (c .before .before .before .before .before .before .before .before .before .before .before .before .before .before .before .args .i .0) 9 (node-kind (c .before .before .before .before .before .before .before .before .before .before .before .kind .ensures) (c .before .before .before .before .before .before .before .before .before .before .before .before .node-word .ensures)) (omega arith) refl refl refl (c .before .before .before .before .row-of9 .ensures)
-    (c .before .before .before .before .before .before .before .text-at6 .ensures) (rw (c .before .before .before .before .before .before .before .before .before .before .before .before .node-word .ensures) at (c .before .before .group7 .ensures))
+    group-placed (c .before .before .before .before .before .before .before .before .before .before .before .args .inputs) (c .before .before .before .before .before .before .before .before .before .before .before .args .nodes .now .now) (c .before .before .before .before .before .before .before .before .before .before .before .args .i .0) 9 (node-kind (c .before .before .before .before .before .before .before .kind .ensures) (c .before .before .before .before .before .before .before .before .node-word .ensures)) (omega arith) refl refl refl (c .before .before .before .before .before .row-of9 .ensures)
+    (rw (c .before .before .before .before .before .before .before .before .node-word .ensures) at (c .before .before .worded6 .ensures))
 
 node-returns-11 : (t : ℕ) → node-lts.Need-returns-11 (node-given t) (node-now t) node.Post
 unfolding wordOf stepOf stepWord rows rowAt useOf usesTable wordText inBrackets formerText ascii
 node-returns-11 t c =
-    group-placed (c .before .before .before .before .before .before .before .before .before .before .before .before .before .before .before .args .inputs) (c .before .before .before .before .before .before .before .before .before .before .before .before .before .before .before .args .nodes .now .now) (c .before .before .before .before .before .before .before .before .before .before .before .before .before .before .before .args .i .0) 10 (node-kind (c .before .before .before .before .before .before .before .before .before .before .before .kind .ensures) (c .before .before .before .before .before .before .before .before .before .before .before .before .node-word .ensures)) (omega arith) refl refl refl (c .before .before .before .before .row-of10 .ensures)
-    (c .before .before .before .before .before .before .before .text-at7 .ensures) (rw (c .before .before .before .before .before .before .before .before .before .before .before .before .node-word .ensures) at (c .before .before .group8 .ensures))
+    group-placed (c .before .before .before .before .before .before .before .before .before .before .before .args .inputs) (c .before .before .before .before .before .before .before .before .before .before .before .args .nodes .now .now) (c .before .before .before .before .before .before .before .before .before .before .before .args .i .0) 10 (node-kind (c .before .before .before .before .before .before .before .kind .ensures) (c .before .before .before .before .before .before .before .before .node-word .ensures)) (omega arith) refl refl refl (c .before .before .before .before .before .row-of10 .ensures)
+    (rw (c .before .before .before .before .before .before .before .before .node-word .ensures) at (c .before .before .worded7 .ensures))
 
 node-returns-12 : (t : ℕ) → node-lts.Need-returns-12 (node-given t) (node-now t) node.Post
 unfolding wordOf stepOf stepWord rows rowAt useOf usesTable wordText inBrackets formerText ascii
 node-returns-12 t c =
-    group-placed (c .before .before .before .before .before .before .before .before .before .before .before .before .before .before .before .args .inputs) (c .before .before .before .before .before .before .before .before .before .before .before .before .before .before .before .args .nodes .now .now) (c .before .before .before .before .before .before .before .before .before .before .before .before .before .before .before .args .i .0) 11 (node-kind (c .before .before .before .before .before .before .before .before .before .before .before .kind .ensures) (c .before .before .before .before .before .before .before .before .before .before .before .before .node-word .ensures)) (omega arith) refl refl refl (c .before .before .before .before .row-of11 .ensures)
-    (c .before .before .before .before .before .before .before .text-at8 .ensures) (rw (c .before .before .before .before .before .before .before .before .before .before .before .before .node-word .ensures) at (c .before .before .group9 .ensures))
+    group-placed (c .before .before .before .before .before .before .before .before .before .before .before .args .inputs) (c .before .before .before .before .before .before .before .before .before .before .before .args .nodes .now .now) (c .before .before .before .before .before .before .before .before .before .before .before .args .i .0) 11 (node-kind (c .before .before .before .before .before .before .before .kind .ensures) (c .before .before .before .before .before .before .before .before .node-word .ensures)) (omega arith) refl refl refl (c .before .before .before .before .before .row-of11 .ensures)
+    (rw (c .before .before .before .before .before .before .before .before .node-word .ensures) at (c .before .before .worded8 .ensures))
 
 node-returns-13 : (t : ℕ) → node-lts.Need-returns-13 (node-given t) (node-now t) node.Post
 unfolding wordOf stepOf stepWord rows rowAt useOf usesTable wordText inBrackets formerText ascii
 node-returns-13 t c =
-    group-placed (c .before .before .before .before .before .before .before .before .before .before .before .before .before .before .before .args .inputs) (c .before .before .before .before .before .before .before .before .before .before .before .before .before .before .before .args .nodes .now .now) (c .before .before .before .before .before .before .before .before .before .before .before .before .before .before .before .args .i .0) 12 (node-kind (c .before .before .before .before .before .before .before .before .before .before .before .kind .ensures) (c .before .before .before .before .before .before .before .before .before .before .before .before .node-word .ensures)) (omega arith) refl refl refl (c .before .before .before .before .row-of12 .ensures)
-    (rw (c .before .before .before .before .before .before .before .before .field-c2 .ensures, c .before .before .before .before .before .before .before .before .before .before .before .before .node-word .ensures) at (c .before .before .before .before .before .before .before .put-sign2 .ensures)) (rw (c .before .before .before .before .before .before .before .before .before .before .before .before .node-word .ensures) at (c .before .before .group10 .ensures))
+    group-placed (c .before .before .before .before .before .before .before .before .before .before .args .inputs) (c .before .before .before .before .before .before .before .before .before .before .args .nodes .now .now) (c .before .before .before .before .before .before .before .before .before .before .args .i .0) 12 (node-kind (c .before .before .before .before .before .before .kind .ensures) (c .before .before .before .before .before .before .before .node-word .ensures)) (omega arith) refl refl refl (c .before .before .before .before .row-of12 .ensures)
+    (rw (c .before .before .before .before .before .before .before .node-word .ensures) at (c .before .before .operation2 .ensures))
 
 node-returns-14 : (t : ℕ) → node-lts.Need-returns-14 (node-given t) (node-now t) node.Post
 unfolding Other
@@ -305,9 +349,9 @@ node-returns-14 t c =
     value-placed (c .before .before .before .before .before .before .before .before .before .before .args .inputs) (c .before .before .before .before .before .before .before .before .before .before .args .nodes .now .now) (c .before .before .before .before .before .before .before .before .before .before .args .i .0) (c .before .before .before .before .before .before .kind .result) (node-kind (c .before .before .before .before .before .before .kind .ensures) (c .before .before .before .before .before .before .before .node-word .ensures)) refl (past-value _ (c .before .before .before .before .before .match .rest)) (past-uses _ (c .before .before .before .before .before .match .rest))
     (rw (toZ-ofZ (record { sfits = c .before .before .before .value2 .ok }), c .before .before .before .value2 .ensures, c .before .before .before .before .before .before .before .node-word .ensures) at (c .before .before .decimal-at2 .ensures))
 
-pub +bare+child-at+group+node+spaced-at-spec : {M : Type 1} → statement M
-+bare+child-at+group+node+spaced-at-spec =
-    close μ-bare μ-child-at μ-group μ-node μ-spaced-at (λ t. bare-lts.spec (bare-given t)
+pub +bare+child-at+group+node+operation+spaced-at+worded-spec : {M : Type 1} → statement M
++bare+child-at+group+node+operation+spaced-at+worded-spec =
+    close μ-bare μ-child-at μ-group μ-node μ-operation μ-spaced-at μ-worded (λ t. bare-lts.spec (bare-given t)
     (bare-now t)
     bare.Post
     (λ c κs. search needs)
@@ -366,44 +410,32 @@ pub +bare+child-at+group+node+spaced-at-spec : {M : Type 1} → statement M
     (λ c κs. (omega arith, tt))
     (λ c κs. search needs)
     (λ c κs. (omega arith, tt))
+    (λ c κs. search needs)
     (λ c. search needs)
-    (λ c κs. search needs)
-    (λ c κs. search needs)
     (λ c κs. (omega arith, tt))
+    (λ c κs. search needs)
     (λ c. search needs)
-    (λ c κs. search needs)
-    (λ c κs. search needs)
     (λ c κs. (omega arith, tt))
+    (λ c κs. search needs)
     (λ c. search needs)
-    (λ c κs. search needs)
-    (λ c κs. search needs)
     (λ c κs. (omega arith, tt))
+    (λ c κs. search needs)
     (λ c. search needs)
-    (λ c κs. search needs)
+    (λ c κs. (omega arith, tt))
     (λ c κs. search needs)
     (λ c κs. (omega arith, tt))
     (λ c κs. search needs)
-    (λ c κs. search needs)
-    (λ c κs. search needs)
-    (λ c κs. (omega arith, tt))
     (λ c. search needs)
-    (λ c κs. search needs)
-    (λ c κs. search needs)
     (λ c κs. (omega arith, tt))
+    (λ c κs. search needs)
     (λ c. search needs)
-    (λ c κs. search needs)
-    (λ c κs. search needs)
     (λ c κs. (omega arith, tt))
+    (λ c κs. search needs)
     (λ c. search needs)
-    (λ c κs. search needs)
-    (λ c κs. search needs)
     (λ c κs. (omega arith, tt))
+    (λ c κs. search needs)
     (λ c. search needs)
-    (λ c κs. search needs)
-    (λ c κs. search needs)
     (λ c κs. (omega arith, tt))
-    (λ c κs. search needs)
-    (λ c κs. search needs)
     (λ c κs. search needs)
     (λ c κs. (omega arith, tt))
     (λ c κs. search needs)
@@ -436,7 +468,15 @@ pub +bare+child-at+group+node+spaced-at-spec : {M : Type 1} → statement M
     (node-returns-13 t)
     (λ c. search needs)
     (node-returns-14 t))
-    λ t. spaced-at-lts.spec (spaced-at-given t)
+    (λ t. operation-lts.spec (operation-given t)
+    (operation-now t)
+    operation.Post
+    (λ c κs. search needs)
+    (λ c κs. search needs)
+    (λ c κs. (omega arith, tt))
+    (λ c. search needs)
+    (operation-returns t))
+    (λ t. spaced-at-lts.spec (spaced-at-given t)
     (spaced-at-now t)
     spaced-at.Post
     (λ c. search needs)
@@ -459,4 +499,11 @@ pub +bare+child-at+group+node+spaced-at-spec : {M : Type 1} → statement M
     (λ c. search needs)
     (spaced-at-returns-4 t)
     (spaced-at-returns-5 t)
-    (spaced-at-returns-6 t)
+    (spaced-at-returns-6 t))
+    λ t. worded-lts.spec (worded-given t)
+    (worded-now t)
+    worded.Post
+    (λ c κs. search needs)
+    (λ c κs. (omega arith, tt))
+    (λ c. search needs)
+    (worded-returns t)
