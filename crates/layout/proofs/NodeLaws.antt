@@ -54,7 +54,8 @@ node-kind e f = e ∙ ap wordKind f
 -- The text of node i in words, by the kind that an arm names, which is its own, and the row that the arm reads.
 module _ (n : ℕ) (ws : List ℕ) (i m : ℕ) {k : ℕ} (kind : k ≡ wordKind (getD ws i 0)) (same : k ≡ m) {e : ℕ} {x y : List ℕ} where
   by-row :
-      {w : Word} {r : Row} → wordOf m ≡ w → r ≡ rowAt m → Placed (rowText n (childText n ws i) w r (wordA (getD ws i 0)) (wordB (getD ws i 0)) (wordC (getD ws i 0)) (wordValue (getD ws i 0))) 0 x y e →
+      {w : Word} {r : Row} → wordOf m ≡ w → r ≡ rowAt m → Placed (rowText n (childText n ws i) w r (wordA (getD ws i 0)) (wordB (getD ws i 0)) (wordC
+      (getD ws i 0)) (wordValue (getD ws i 0))) 0 x y e →
       Placed (wordsText n ws i) 0 x y e
   unfolding nodeText
   by-row ew er p = rw (node-step n (λ j. wordNode (getD ws j 0)) i, ← kind, same, ew, ← er) p

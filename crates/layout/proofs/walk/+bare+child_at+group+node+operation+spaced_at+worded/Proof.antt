@@ -207,15 +207,21 @@ bare-returns t c = rw (c .enum-told .given .1) (stays (omega arith))
 
 bare-returns-2 : (t : ℕ) → bare-lts.Need-returns-2 (bare-given t) (bare-now t) bare.Post
 unfolding fieldText framed
-bare-returns-2 t c = rw (c .before .before .before .before .enum-told2 .given .1, ← c .before .before .before .before .before .before .field-a .ensures) (c .before .before .name-at .ensures)
+bare-returns-2 t c =
+    let d = c .before .before .before .before .before .before in
+    rw (c .before .before .before .before .enum-told2 .given .1, ← d .field-a .ensures) (c .before .before .name-at .ensures)
 
 bare-returns-3 : (t : ℕ) → bare-lts.Need-returns-3 (bare-given t) (bare-now t) bare.Post
 unfolding fieldText framed
-bare-returns-3 t c = rw (c .before .before .before .before .enum-told3 .given .1, ← c .before .before .before .before .before .before .field-a .ensures) (c .before .before .name-at2 .ensures)
+bare-returns-3 t c =
+    let d = c .before .before .before .before .before .before in
+    rw (c .before .before .before .before .enum-told3 .given .1, ← d .field-a .ensures) (c .before .before .name-at2 .ensures)
 
 bare-returns-4 : (t : ℕ) → bare-lts.Need-returns-4 (bare-given t) (bare-now t) bare.Post
 unfolding fieldText framed
-bare-returns-4 t c = rw (c .before .before .before .before .enum-told4 .given .1, ← c .before .before .before .before .before .before .field-a .ensures) (c .before .before .child-at .ensures)
+bare-returns-4 t c =
+    let d = c .before .before .before .before .before .before in
+    rw (c .before .before .before .before .enum-told4 .given .1, ← d .field-a .ensures) (c .before .before .child-at .ensures)
 
 bare-returns-5 : (t : ℕ) → bare-lts.Need-returns-5 (bare-given t) (bare-now t) bare.Post
 unfolding fieldText framed
@@ -226,17 +232,28 @@ unfolding fieldText framed
 bare-returns-6 t c = rw (c .enum-told6 .given .1) (stays (omega arith))
 
 child-at-returns : (t : ℕ) → child-at-lts.Need-returns (child-at-given t) (child-at-now t) child-at.Post
-child-at-returns t c = child-placed _ _ _ (omega (arith, c .before .before .before .before .before .before .if1 .taken)) (placed-rest (omega (arith, c .before .before .before .before .before .least .ensures)) (c .before .before .before .node .ensures) (c .further .ensures))
+child-at-returns t c =
+    let d = c .before .before .before .before .before in
+    child-placed _ _ _ (omega (arith, d .before .if1 .taken)) (placed-rest (omega (arith, d .least .ensures)) (c .before .before .before .node
+    .ensures) (c .further .ensures))
 
 child-at-returns-2 : (t : ℕ) → child-at-lts.Need-returns-2 (child-at-given t) (child-at-now t) child-at.Post
 child-at-returns-2 t c = no-child-placed _ _ _ (omega (arith, c .before .before .before .before .if1 .left)) (c .before .before .letter-at .ensures)
 
 group-returns : (t : ℕ) → group-lts.Need-returns (group-given t) (group-now t) group.Post
-group-returns t c = rw (← c .before .before .before .before .before .before .before .before .before .before .before .before .before .before .before .before .before .before .field-a .ensures, ← c .before .before .before .before .before .before .before .before .before .before .before .before .before .field-b .ensures, ← c .before .before .before .before .before .before .before .before .field-c .ensures)
-    (join (join (join (c .before .before .before .before .before .before .before .before .before .before .before .before .before .before .before .before .spaced-at .ensures) (c .before .before .before .before .before .before .before .before .before .before .before .spaced-at2 .ensures)) (c .before .before .before .before .before .before .spaced-at3 .ensures)) (c .before .before .letter-at .ensures))
+group-returns t c =
+    let d = c .before .before .before .before .before .before in
+    let e = d .before .before .before .before .before in
+    let f = e .before .before .before .before .before in
+    rw (← f .before .before .field-a .ensures, ← e .before .before .field-b .ensures, ← d .before .before .field-c .ensures)
+    (join (join (join (f .spaced-at .ensures) (e .spaced-at2 .ensures)) (d .spaced-at3 .ensures)) (c .before .before .letter-at .ensures))
 
 group-same-length : (t : ℕ) → group-lts.Need-same-length (group-given t) (group-now t) group.Post
-group-same-length t c = omega (arith, c .before .before .before .before .before .before .before .before .before .before .before .before .before .before .before .before .spaced-at .kept, c .before .before .before .before .before .before .before .before .before .before .before .spaced-at2 .kept, c .before .before .before .before .before .before .spaced-at3 .kept, c .before .before .letter-at .kept)
+group-same-length t c =
+    let d = c .before .before .before .before .before .before in
+    let e = d .before .before .before .before .before in
+    let f = e .before .before .before .before .before in
+    omega (arith, f .spaced-at .kept, e .spaced-at2 .kept, d .spaced-at3 .kept, c .before .before .letter-at .kept)
 
 spaced-at-returns : (t : ℕ) → spaced-at-lts.Need-returns (spaced-at-given t) (spaced-at-now t) spaced-at.Post
 unfolding fieldText framed
@@ -244,15 +261,21 @@ spaced-at-returns t c = rw (c .enum-told .given .1) (stays (omega arith))
 
 spaced-at-returns-2 : (t : ℕ) → spaced-at-lts.Need-returns-2 (spaced-at-given t) (spaced-at-now t) spaced-at.Post
 unfolding fieldText framed
-spaced-at-returns-2 t c = rw (c .before .before .before .before .before .before .before .before .enum-told2 .given .1) (join (c .before .before .before .before .before .before .letter-at .ensures) (c .before .before .name-at .ensures))
+spaced-at-returns-2 t c =
+    let d = c .before .before .before .before .before .before in
+    rw (d .before .before .enum-told2 .given .1) (join (d .letter-at .ensures) (c .before .before .name-at .ensures))
 
 spaced-at-returns-3 : (t : ℕ) → spaced-at-lts.Need-returns-3 (spaced-at-given t) (spaced-at-now t) spaced-at.Post
 unfolding fieldText framed
-spaced-at-returns-3 t c = rw (c .before .before .before .before .before .before .before .before .enum-told3 .given .1) (join (c .before .before .before .before .before .before .letter-at2 .ensures) (c .before .before .name-at2 .ensures))
+spaced-at-returns-3 t c =
+    let d = c .before .before .before .before .before .before in
+    rw (d .before .before .enum-told3 .given .1) (join (d .letter-at2 .ensures) (c .before .before .name-at2 .ensures))
 
 spaced-at-returns-4 : (t : ℕ) → spaced-at-lts.Need-returns-4 (spaced-at-given t) (spaced-at-now t) spaced-at.Post
 unfolding fieldText framed
-spaced-at-returns-4 t c = rw (c .before .before .before .before .before .before .before .before .enum-told4 .given .1) (join (c .before .before .before .before .before .before .letter-at3 .ensures) (c .before .before .child-at .ensures))
+spaced-at-returns-4 t c =
+    let d = c .before .before .before .before .before .before in
+    rw (d .before .before .enum-told4 .given .1) (join (d .letter-at3 .ensures) (c .before .before .child-at .ensures))
 
 spaced-at-returns-5 : (t : ℕ) → spaced-at-lts.Need-returns-5 (spaced-at-given t) (spaced-at-now t) spaced-at.Post
 unfolding fieldText framed
@@ -263,7 +286,9 @@ unfolding fieldText framed
 spaced-at-returns-6 t c = rw (c .enum-told6 .given .1) (stays (omega arith))
 
 operation-returns : (t : ℕ) → operation-lts.Need-returns (operation-given t) (operation-now t) operation.Post
-operation-returns t c = join (rw (c .before .before .before .before .before .before .before .field-c .ensures) at (c .before .before .before .before .before .before .put-sign .ensures)) (c .before .before .group .ensures)
+operation-returns t c =
+    let d = c .before .before .before .before .before .before in
+    join (rw (d .before .field-c .ensures) at (d .put-sign .ensures)) (c .before .before .group .ensures)
 
 worded-returns : (t : ℕ) → worded-lts.Need-returns (worded-given t) (worded-now t) worded.Post
 worded-returns t c = join (c .before .before .before .before .before .before .text-at .ensures) (c .before .before .group .ensures)
@@ -271,83 +296,136 @@ worded-returns t c = join (c .before .before .before .before .before .before .te
 node-returns : (t : ℕ) → node-lts.Need-returns (node-given t) (node-now t) node.Post
 unfolding wordOf stepOf stepWord rows rowAt useOf usesTable
 node-returns t c =
-    value-placed (c .before .before .before .before .before .before .before .before .before .before .args .inputs) (c .before .before .before .before .before .before .before .before .before .before .args .nodes .now .now) (c .before .before .before .before .before .before .before .before .before .before .args .i .0) 0 (node-kind (c .before .before .before .before .before .before .kind .ensures) (c .before .before .before .before .before .before .before .node-word .ensures)) (omega arith) refl refl (rw (toZ-ofZ (record { sfits = c .before .before .before .value .ok }), c .before .before .before .value .ensures, c .before .before .before .before .before .before .before .node-word .ensures) at (c .before .before .decimal-at .ensures))
+    let d = c .before .before .before .before .before .before in
+    value-placed (d .before .before .before .before .args .inputs) (d .before .before .before .before .args .nodes .now .now) (d .before .before
+    .before .before .args .i .0) 0 (node-kind (d .kind .ensures) (d .before .node-word .ensures)) (omega arith) refl refl (rw (
+      toZ-ofZ (record {
+        sfits = c .before .before .before .value .ok;
+      }),
+      c .before .before .before .value .ensures,
+      d .before .node-word .ensures,
+    ) at (c .before
+    .before .decimal-at .ensures))
 
 node-returns-2 : (t : ℕ) → node-lts.Need-returns-2 (node-given t) (node-now t) node.Post
 unfolding wordOf stepOf stepWord rows rowAt useOf usesTable
 node-returns-2 t c =
-    bare-placed (c .before .before .before .before .before .before .before .before .before .before .args .inputs) (c .before .before .before .before .before .before .before .before .before .before .args .nodes .now .now) (c .before .before .before .before .before .before .before .before .before .before .args .i .0) 1 (node-kind (c .before .before .before .before .before .before .kind .ensures) (c .before .before .before .before .before .before .before .node-word .ensures)) (omega arith) refl refl (c .before .before .before .before .row-of .ensures) (rw (c .before .before .before .before .before .before .before .node-word .ensures) at (c .before .before .bare .ensures))
+    let d = c .before .before .before .before .before .before in
+    bare-placed (d .before .before .before .before .args .inputs) (d .before .before .before .before .args .nodes .now .now) (d .before .before
+    .before .before .args .i .0) 1 (node-kind (d .kind .ensures) (d .before .node-word .ensures)) (omega arith) refl refl (c .before .before
+    .before .before .row-of .ensures) (rw (d .before .node-word .ensures) at (c .before .before .bare .ensures))
 
 node-returns-3 : (t : ℕ) → node-lts.Need-returns-3 (node-given t) (node-now t) node.Post
 unfolding wordOf stepOf stepWord rows rowAt useOf usesTable
 node-returns-3 t c =
-    bare-placed (c .before .before .before .before .before .before .before .before .before .before .args .inputs) (c .before .before .before .before .before .before .before .before .before .before .args .nodes .now .now) (c .before .before .before .before .before .before .before .before .before .before .args .i .0) 2 (node-kind (c .before .before .before .before .before .before .kind .ensures) (c .before .before .before .before .before .before .before .node-word .ensures)) (omega arith) refl refl (c .before .before .before .before .row-of2 .ensures) (rw (c .before .before .before .before .before .before .before .node-word .ensures) at (c .before .before .bare2 .ensures))
+    let d = c .before .before .before .before .before .before in
+    bare-placed (d .before .before .before .before .args .inputs) (d .before .before .before .before .args .nodes .now .now) (d .before .before
+    .before .before .args .i .0) 2 (node-kind (d .kind .ensures) (d .before .node-word .ensures)) (omega arith) refl refl (c .before .before
+    .before .before .row-of2 .ensures) (rw (d .before .node-word .ensures) at (c .before .before .bare2 .ensures))
 
 node-returns-4 : (t : ℕ) → node-lts.Need-returns-4 (node-given t) (node-now t) node.Post
 unfolding wordOf stepOf stepWord rows rowAt useOf usesTable wordText inBrackets formerText ascii
 node-returns-4 t c =
-    group-placed (c .before .before .before .before .before .before .before .before .before .before .before .args .inputs) (c .before .before .before .before .before .before .before .before .before .before .before .args .nodes .now .now) (c .before .before .before .before .before .before .before .before .before .before .before .args .i .0) 3 (node-kind (c .before .before .before .before .before .before .before .kind .ensures) (c .before .before .before .before .before .before .before .before .node-word .ensures)) (omega arith) refl refl refl (c .before .before .before .before .before .row-of3 .ensures)
-    (rw (c .before .before .before .before .before .before .before .before .node-word .ensures) at (c .before .before .worded .ensures))
+    let d = c .before .before .before .before .before in
+    let e = d .before .before .before .before .before .before in
+    group-placed (e .args .inputs) (e .args .nodes .now .now) (e .args .i .0) 3 (node-kind (d .before .before .kind .ensures) (d .before .before
+    .before .node-word .ensures)) (omega arith) refl refl refl (d .row-of3 .ensures)
+    (rw (d .before .before .before .node-word .ensures) at (c .before .before .worded .ensures))
 
 node-returns-5 : (t : ℕ) → node-lts.Need-returns-5 (node-given t) (node-now t) node.Post
 unfolding wordOf stepOf stepWord rows rowAt useOf usesTable wordText inBrackets formerText ascii
 node-returns-5 t c =
-    group-placed (c .before .before .before .before .before .before .before .before .before .before .before .args .inputs) (c .before .before .before .before .before .before .before .before .before .before .before .args .nodes .now .now) (c .before .before .before .before .before .before .before .before .before .before .before .args .i .0) 4 (node-kind (c .before .before .before .before .before .before .before .kind .ensures) (c .before .before .before .before .before .before .before .before .node-word .ensures)) (omega arith) refl refl refl (c .before .before .before .before .before .row-of4 .ensures)
-    (rw (c .before .before .before .before .before .before .before .before .node-word .ensures) at (c .before .before .worded2 .ensures))
+    let d = c .before .before .before .before .before in
+    let e = d .before .before .before .before .before .before in
+    group-placed (e .args .inputs) (e .args .nodes .now .now) (e .args .i .0) 4 (node-kind (d .before .before .kind .ensures) (d .before .before
+    .before .node-word .ensures)) (omega arith) refl refl refl (d .row-of4 .ensures)
+    (rw (d .before .before .before .node-word .ensures) at (c .before .before .worded2 .ensures))
 
 node-returns-6 : (t : ℕ) → node-lts.Need-returns-6 (node-given t) (node-now t) node.Post
 unfolding wordOf stepOf stepWord rows rowAt useOf usesTable wordText inBrackets formerText ascii
 node-returns-6 t c =
-    group-placed (c .before .before .before .before .before .before .before .before .before .before .before .args .inputs) (c .before .before .before .before .before .before .before .before .before .before .before .args .nodes .now .now) (c .before .before .before .before .before .before .before .before .before .before .before .args .i .0) 5 (node-kind (c .before .before .before .before .before .before .before .kind .ensures) (c .before .before .before .before .before .before .before .before .node-word .ensures)) (omega arith) refl refl refl (c .before .before .before .before .before .row-of5 .ensures)
-    (rw (c .before .before .before .before .before .before .before .before .node-word .ensures) at (c .before .before .worded3 .ensures))
+    let d = c .before .before .before .before .before in
+    let e = d .before .before .before .before .before .before in
+    group-placed (e .args .inputs) (e .args .nodes .now .now) (e .args .i .0) 5 (node-kind (d .before .before .kind .ensures) (d .before .before
+    .before .node-word .ensures)) (omega arith) refl refl refl (d .row-of5 .ensures)
+    (rw (d .before .before .before .node-word .ensures) at (c .before .before .worded3 .ensures))
 
 node-returns-7 : (t : ℕ) → node-lts.Need-returns-7 (node-given t) (node-now t) node.Post
 unfolding wordOf stepOf stepWord rows rowAt useOf usesTable wordText inBrackets formerText ascii
 node-returns-7 t c =
-    group-placed (c .before .before .before .before .before .before .before .before .before .before .before .args .inputs) (c .before .before .before .before .before .before .before .before .before .before .before .args .nodes .now .now) (c .before .before .before .before .before .before .before .before .before .before .before .args .i .0) 6 (node-kind (c .before .before .before .before .before .before .before .kind .ensures) (c .before .before .before .before .before .before .before .before .node-word .ensures)) (omega arith) refl refl refl (c .before .before .before .before .before .row-of6 .ensures)
-    (rw (c .before .before .before .before .before .before .before .before .node-word .ensures) at (c .before .before .worded4 .ensures))
+    let d = c .before .before .before .before .before in
+    let e = d .before .before .before .before .before .before in
+    group-placed (e .args .inputs) (e .args .nodes .now .now) (e .args .i .0) 6 (node-kind (d .before .before .kind .ensures) (d .before .before
+    .before .node-word .ensures)) (omega arith) refl refl refl (d .row-of6 .ensures)
+    (rw (d .before .before .before .node-word .ensures) at (c .before .before .worded4 .ensures))
 
 node-returns-8 : (t : ℕ) → node-lts.Need-returns-8 (node-given t) (node-now t) node.Post
 unfolding wordOf stepOf stepWord rows rowAt useOf usesTable wordText inBrackets formerText ascii
 node-returns-8 t c =
-    group-placed (c .before .before .before .before .before .before .before .before .before .before .args .inputs) (c .before .before .before .before .before .before .before .before .before .before .args .nodes .now .now) (c .before .before .before .before .before .before .before .before .before .before .args .i .0) 7 (node-kind (c .before .before .before .before .before .before .kind .ensures) (c .before .before .before .before .before .before .before .node-word .ensures)) (omega arith) refl refl refl (c .before .before .before .before .row-of7 .ensures)
-    (rw (c .before .before .before .before .before .before .before .node-word .ensures) at (c .before .before .operation .ensures))
+    let d = c .before .before .before .before .before .before in
+    group-placed (d .before .before .before .before .args .inputs) (d .before .before .before .before .args .nodes .now .now) (d .before .before
+    .before .before .args .i .0) 7 (node-kind (d .kind .ensures) (d .before .node-word .ensures)) (omega arith) refl refl refl (c .before .before
+    .before .before .row-of7 .ensures)
+    (rw (d .before .node-word .ensures) at (c .before .before .operation .ensures))
 
 node-returns-9 : (t : ℕ) → node-lts.Need-returns-9 (node-given t) (node-now t) node.Post
 unfolding wordOf stepOf stepWord rows rowAt useOf usesTable wordText inBrackets formerText ascii
 node-returns-9 t c =
-    group-placed (c .before .before .before .before .before .before .before .before .before .before .before .args .inputs) (c .before .before .before .before .before .before .before .before .before .before .before .args .nodes .now .now) (c .before .before .before .before .before .before .before .before .before .before .before .args .i .0) 8 (node-kind (c .before .before .before .before .before .before .before .kind .ensures) (c .before .before .before .before .before .before .before .before .node-word .ensures)) (omega arith) refl refl refl (c .before .before .before .before .before .row-of8 .ensures)
-    (rw (c .before .before .before .before .before .before .before .before .node-word .ensures) at (c .before .before .worded5 .ensures))
+    let d = c .before .before .before .before .before in
+    let e = d .before .before .before .before .before .before in
+    group-placed (e .args .inputs) (e .args .nodes .now .now) (e .args .i .0) 8 (node-kind (d .before .before .kind .ensures) (d .before .before
+    .before .node-word .ensures)) (omega arith) refl refl refl (d .row-of8 .ensures)
+    (rw (d .before .before .before .node-word .ensures) at (c .before .before .worded5 .ensures))
 
 node-returns-10 : (t : ℕ) → node-lts.Need-returns-10 (node-given t) (node-now t) node.Post
 unfolding wordOf stepOf stepWord rows rowAt useOf usesTable wordText inBrackets formerText ascii
 node-returns-10 t c =
-    group-placed (c .before .before .before .before .before .before .before .before .before .before .before .args .inputs) (c .before .before .before .before .before .before .before .before .before .before .before .args .nodes .now .now) (c .before .before .before .before .before .before .before .before .before .before .before .args .i .0) 9 (node-kind (c .before .before .before .before .before .before .before .kind .ensures) (c .before .before .before .before .before .before .before .before .node-word .ensures)) (omega arith) refl refl refl (c .before .before .before .before .before .row-of9 .ensures)
-    (rw (c .before .before .before .before .before .before .before .before .node-word .ensures) at (c .before .before .worded6 .ensures))
+    let d = c .before .before .before .before .before in
+    let e = d .before .before .before .before .before .before in
+    group-placed (e .args .inputs) (e .args .nodes .now .now) (e .args .i .0) 9 (node-kind (d .before .before .kind .ensures) (d .before .before
+    .before .node-word .ensures)) (omega arith) refl refl refl (d .row-of9 .ensures)
+    (rw (d .before .before .before .node-word .ensures) at (c .before .before .worded6 .ensures))
 
 node-returns-11 : (t : ℕ) → node-lts.Need-returns-11 (node-given t) (node-now t) node.Post
 unfolding wordOf stepOf stepWord rows rowAt useOf usesTable wordText inBrackets formerText ascii
 node-returns-11 t c =
-    group-placed (c .before .before .before .before .before .before .before .before .before .before .before .args .inputs) (c .before .before .before .before .before .before .before .before .before .before .before .args .nodes .now .now) (c .before .before .before .before .before .before .before .before .before .before .before .args .i .0) 10 (node-kind (c .before .before .before .before .before .before .before .kind .ensures) (c .before .before .before .before .before .before .before .before .node-word .ensures)) (omega arith) refl refl refl (c .before .before .before .before .before .row-of10 .ensures)
-    (rw (c .before .before .before .before .before .before .before .before .node-word .ensures) at (c .before .before .worded7 .ensures))
+    let d = c .before .before .before .before .before in
+    let e = d .before .before .before .before .before .before in
+    group-placed (e .args .inputs) (e .args .nodes .now .now) (e .args .i .0) 10 (node-kind (d .before .before .kind .ensures) (d .before .before
+    .before .node-word .ensures)) (omega arith) refl refl refl (d .row-of10 .ensures)
+    (rw (d .before .before .before .node-word .ensures) at (c .before .before .worded7 .ensures))
 
 node-returns-12 : (t : ℕ) → node-lts.Need-returns-12 (node-given t) (node-now t) node.Post
 unfolding wordOf stepOf stepWord rows rowAt useOf usesTable wordText inBrackets formerText ascii
 node-returns-12 t c =
-    group-placed (c .before .before .before .before .before .before .before .before .before .before .before .args .inputs) (c .before .before .before .before .before .before .before .before .before .before .before .args .nodes .now .now) (c .before .before .before .before .before .before .before .before .before .before .before .args .i .0) 11 (node-kind (c .before .before .before .before .before .before .before .kind .ensures) (c .before .before .before .before .before .before .before .before .node-word .ensures)) (omega arith) refl refl refl (c .before .before .before .before .before .row-of11 .ensures)
-    (rw (c .before .before .before .before .before .before .before .before .node-word .ensures) at (c .before .before .worded8 .ensures))
+    let d = c .before .before .before .before .before in
+    let e = d .before .before .before .before .before .before in
+    group-placed (e .args .inputs) (e .args .nodes .now .now) (e .args .i .0) 11 (node-kind (d .before .before .kind .ensures) (d .before .before
+    .before .node-word .ensures)) (omega arith) refl refl refl (d .row-of11 .ensures)
+    (rw (d .before .before .before .node-word .ensures) at (c .before .before .worded8 .ensures))
 
 node-returns-13 : (t : ℕ) → node-lts.Need-returns-13 (node-given t) (node-now t) node.Post
 unfolding wordOf stepOf stepWord rows rowAt useOf usesTable wordText inBrackets formerText ascii
 node-returns-13 t c =
-    group-placed (c .before .before .before .before .before .before .before .before .before .before .args .inputs) (c .before .before .before .before .before .before .before .before .before .before .args .nodes .now .now) (c .before .before .before .before .before .before .before .before .before .before .args .i .0) 12 (node-kind (c .before .before .before .before .before .before .kind .ensures) (c .before .before .before .before .before .before .before .node-word .ensures)) (omega arith) refl refl refl (c .before .before .before .before .row-of12 .ensures)
-    (rw (c .before .before .before .before .before .before .before .node-word .ensures) at (c .before .before .operation2 .ensures))
+    let d = c .before .before .before .before .before .before in
+    group-placed (d .before .before .before .before .args .inputs) (d .before .before .before .before .args .nodes .now .now) (d .before .before
+    .before .before .args .i .0) 12 (node-kind (d .kind .ensures) (d .before .node-word .ensures)) (omega arith) refl refl refl (c .before
+    .before .before .before .row-of12 .ensures)
+    (rw (d .before .node-word .ensures) at (c .before .before .operation2 .ensures))
 
 node-returns-14 : (t : ℕ) → node-lts.Need-returns-14 (node-given t) (node-now t) node.Post
 unfolding Other
 node-returns-14 t c =
-    value-placed (c .before .before .before .before .before .before .before .before .before .before .args .inputs) (c .before .before .before .before .before .before .before .before .before .before .args .nodes .now .now) (c .before .before .before .before .before .before .before .before .before .before .args .i .0) (c .before .before .before .before .before .before .kind .result) (node-kind (c .before .before .before .before .before .before .kind .ensures) (c .before .before .before .before .before .before .before .node-word .ensures)) refl (past-value _ (c .before .before .before .before .before .match .rest)) (past-uses _ (c .before .before .before .before .before .match .rest))
-    (rw (toZ-ofZ (record { sfits = c .before .before .before .value2 .ok }), c .before .before .before .value2 .ensures, c .before .before .before .before .before .before .before .node-word .ensures) at (c .before .before .decimal-at2 .ensures))
+    let d = c .before .before .before .before .before in
+    let e = d .before .before .before .before .before in
+    value-placed (e .args .inputs) (e .args .nodes .now .now) (e .args .i .0) (d .before .kind .result) (node-kind (d .before .kind .ensures) (d
+    .before .before .node-word .ensures)) refl (past-value _ (d .match .rest)) (past-uses _ (d .match .rest))
+    (rw (
+      toZ-ofZ (record { sfits = c .before .before .before .value2 .ok }),
+      c .before .before .before .value2 .ensures,
+      d .before .before .node-word
+          .ensures,
+    ) at (c .before .before .decimal-at2 .ensures))
 
 pub +bare+child-at+group+node+operation+spaced-at+worded-spec : {M : Type 1} → statement M
 +bare+child-at+group+node+operation+spaced-at+worded-spec =

@@ -8,11 +8,15 @@ use Rattle.layout.proofs.words.put_name.Tie as tie
 
 returns : tie.Need-returns
 unfolding nameText nameBy ascii
-returns c = rw (lt-ltb (c .before .before .before .before .before .before .args .x .0) (c .before .before .before .before .before .before .args .inputs) (c .before .before .before .before .if1 .taken)) (c .before .before .put-prefixed .ensures .put)
+returns c =
+    let d = c .before .before .before .before .before .before in
+    rw (lt-ltb (d .args .x .0) (d .args .inputs) (c .before .before .before .before .if1 .taken)) (c .before .before .put-prefixed .ensures .put)
 
 returns-2 : tie.Need-returns-2
 unfolding nameText nameBy ascii
-returns-2 c = rw (le-ltb (c .before .before .before .before .before .before .args .x .0) (c .before .before .before .before .before .before .args .inputs) (c .before .before .before .before .if1 .left)) (c .before .before .put-prefixed2 .ensures .put)
+returns-2 c =
+    let d = c .before .before .before .before .before .before in
+    rw (le-ltb (d .args .x .0) (d .args .inputs) (c .before .before .before .before .if1 .left)) (c .before .before .put-prefixed2 .ensures .put)
 
 pub put-name-spec : {M : Type 1} → statement M
 put-name-spec =

@@ -6,7 +6,10 @@ use Rattle.layout.proofs.words.put_sign.Statement.{statement}
 use Rattle.layout.proofs.words.put_sign.Tie as tie
 
 returns : tie.Need-returns
-returns c = rw (c .before .before .before .sign .ensures) (join (at-front (omega (arith, c .before .before .before .before .before .before .before .put-letter .ok)) (c .before .before .before .before .before .before .before .put-letter .ensures)) (c .before .before .letter-at .ensures))
+returns c =
+    let d = c .before .before .before .before .before .before .before in
+    rw (c .before .before .before .sign .ensures) (join (at-front (omega (arith, d .put-letter .ok)) (d .put-letter .ensures)) (c .before .before
+    .letter-at .ensures))
 
 pub put-sign-spec : {M : Type 1} → statement M
 put-sign-spec = tie.close (tie.spec (λ c κs. search needs) (λ c κs. search needs) (λ c κs. search needs) (λ c. search needs) returns)

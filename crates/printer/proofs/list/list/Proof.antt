@@ -10,14 +10,18 @@ list-in-requires : tie.Need-list-in-requires
 list-in-requires c κs = simp length-replicate (omega (arith, c .before .before .if1 .taken))
 
 returns : tie.Need-returns
-returns c = record { text = c .before .before .before .list-in .ensures; lent = c .before .before .before .before .before .before .before .before .tables-fit .ensures }
+returns c =
+    let d = c .before .before .before .before .before .before .before .before in
+    record { text = c .before .before .before .list-in .ensures; lent = d .tables-fit .ensures }
 
 list-in-requires-2 : tie.Need-list-in-requires-2
 unfolding maxNodes
 list-in-requires-2 c κs = simp length-replicate (omega arith)
 
 returns-2 : tie.Need-returns-2
-returns-2 c = record { text = c .before .before .before .list-in2 .ensures; lent = c .before .before .before .before .before .before .before .before .tables-fit .ensures }
+returns-2 c =
+    let d = c .before .before .before .before .before .before .before .before in
+    record { text = c .before .before .before .list-in2 .ensures; lent = d .tables-fit .ensures }
 
 pub list-spec : {M : Type 1} → statement M
 list-spec =

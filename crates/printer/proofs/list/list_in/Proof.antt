@@ -10,14 +10,19 @@ use Rattle.printer.proofs.list.list_in.Tie as tie
 returns : tie.Need-returns
 unfolding listRefusal
 returns c =
-    writes-refused (tells-refusal (c .before .before .before .before .before .tables-packed .ensures .0 (c .before .before .before .before .before .before .before .before .before .before .before .before .before .before .before .before .pre))) (c .before .f .given .1) (search needs)
+    let d = c .before .before .before .before .before in
+    let e = d .before .before .before .before .before .before .before .before .before .before .before in
+    writes-refused (tells-refusal (d .tables-packed .ensures .0 (e .pre))) (c .before .f .given .1) (search needs)
 
 returns-2 : tie.Need-returns-2
 unfolding listRefusal
 returns-2 c =
-    let told = tells-refusal (c .before .before .before .before .before .before .before .before .before .tables-packed .ensures .0 (c .before .before .before .before .before .before .before .before .before .before .before .before .before .before .before .before .before .before .before .before .pre)) in
-    let passed = c .before .before .before .before .before .enum-told .given .1 in
-    writes-passed told passed (c .before .before .list-words .ensures .lists _ (passed-tells-none told passed) (c .before .before .before .before .before .before .before .before .before .tables-packed .ensures .1 .nodes passed))
+    let d = c .before .before .before .before .before in
+    let e = d .before .before .before .before .before .before .before .before .before .before .before .before .before .before .before in
+    let told = tells-refusal (d .before .before .before .before .tables-packed .ensures .0 (e .pre)) in
+    let passed = d .enum-told .given .1 in
+    writes-passed told passed (c .before .before .list-words .ensures .lists _ (passed-tells-none told passed) (d .before .before .before .before
+    .tables-packed .ensures .1 .nodes passed))
 
 pub list-in-spec : {M : Type 1} → statement M
 list-in-spec =

@@ -7,7 +7,10 @@ use Rattle.report.proofs.lines.print_function.Tie as tie
 
 returns : tie.Need-returns
 unfolding ascii
-returns c = line-placed (c .before .before .before .before .before .before .before .before .before .before .before .print-steps .ensures) (c .before .before .before .before .before .before .text-at .ensures) (c .before .before .letter-at .ensures)
+returns c =
+    let d = c .before .before .before .before .before .before in
+    let e = d .before .before .before .before .before in
+    line-placed (e .print-steps .ensures) (d .text-at .ensures) (c .before .before .letter-at .ensures)
 
 pub print-function-spec : {M : Type 1} → statement M
 print-function-spec = tie.close (tie.spec (λ c κs. tt) (λ c. search needs) (λ c κs. tt) (λ c κs. tt) (λ c. search needs) returns)

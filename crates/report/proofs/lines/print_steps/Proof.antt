@@ -7,7 +7,9 @@ use Rattle.report.proofs.lines.print_steps.Tie as tie
 
 returns : tie.Need-returns
 unfolding ascii
-returns c = steps-placed _ (search needs) (c .before .before .before .before .before .before .before .before .before .before .text-at .ensures) (c .before .before .before .before .before .before .digits-at .ensures) (c .before .before .letter-at .ensures)
+returns c =
+    let d = c .before .before .before .before .before .before in
+    steps-placed _ (search needs) (d .before .before .before .before .text-at .ensures) (d .digits-at .ensures) (c .before .before .letter-at .ensures)
 
 pub print-steps-spec : {M : Type 1} → statement M
 print-steps-spec = tie.close (tie.spec (λ c. search needs) (λ c κs. tt) (λ c κs. tt) (λ c κs. tt) (λ c. search needs) returns)

@@ -7,7 +7,11 @@ use Rattle.streams.proofs.print.print_pair.Tie as tie
 
 returns : tie.Need-returns
 unfolding ascii
-returns c = pair-placed _ _ (c .before .before .before .before .before .before .before .before .before .before .before .before .before .before .before .before .before .before .text-at .ensures) (c .before .before .before .before .before .before .before .before .before .before .before .before .before .before .digits-at .ensures) (c .before .before .before .before .before .before .before .before .before .before .text-at2 .ensures) (c .before .before .before .before .before .before .long-at .ensures) (c .before .before .letter-at .ensures)
+returns c =
+    let d = c .before .before .before .before .before .before in
+    let e = d .before .before .before .before .before .before .before .before in
+    pair-placed _ _ (e .before .before .before .before .text-at .ensures) (e .digits-at .ensures) (d .before .before .before .before .text-at2
+    .ensures) (d .long-at .ensures) (c .before .before .letter-at .ensures)
 
 pub print-pair-spec : {M : Type 1} → statement M
 print-pair-spec =

@@ -30,13 +30,19 @@ put-long-returns : (t : ℕ) → put-long-lts.Need-returns (given t) (put-long-a
 put-long-returns t c = put-short (c .before .before .put-digits .ensures)
 
 put-long-add-length : (t : ℕ) → put-long-lts.Need-add-t17 (given t) (put-long-at t) put-long.Post
-put-long-add-length t c = omega (arith, long-length (c .before .before .before .before .before .before .put-long .ensures) (omega (arith, c .before .before .before .before .before .before .before .before .before .before .fits .x)))
+put-long-add-length t c =
+    let d = c .before .before .before .before .before .before in
+    omega (arith, long-length (d .put-long .ensures) (omega (arith, d .before .before .before .before .fits .x)))
 
 put-long-add-rounds : (t : ℕ) → put-long-lts.Need-add-t18 (given t) (put-long-at t) put-long.Post
-put-long-add-rounds t c = omega (arith, long-rounds (c .before .before .before .before .before .before .before .put-long .ensures) (omega (arith, c .before .before .before .before .before .before .before .before .before .before .before .fits .x)))
+put-long-add-rounds t c =
+    let d = c .before .before .before .before .before .before .before in
+    omega (arith, long-rounds (d .put-long .ensures) (omega (arith, d .before .before .before .before .fits .x)))
 
 put-long-returns-2 : (t : ℕ) → put-long-lts.Need-returns-2 (given t) (put-long-at t) put-long.Post
-put-long-returns-2 t c = put-longer (c .before .before .before .before .before .before .before .put-long .ensures) (omega (arith, c .before .before .before .before .before .before .before .before .before .if1 .left)) (c .before .before .before .put8 .ensures)
+put-long-returns-2 t c =
+    let d = c .before .before .before .before .before .before .before in
+    put-longer (d .put-long .ensures) (omega (arith, d .before .before .if1 .left)) (c .before .before .before .put8 .ensures)
 
 pub +put-long-spec : {M : Type 1} → statement M
 +put-long-spec =

@@ -7,7 +7,8 @@ use Rattle.text.proofs.decimals.decimal_at.Tie as tie
 
 returns : tie.Need-returns
 returns c =
-    placed (c .before .before .before .before .before .least .ensures) (rw (toZ-ofZ (c .before .before .before .before .before .before .before .fits .z)) at (c .before .before .before .put-decimal .ensures .put)) (c .further .ensures)
+    let d = c .before .before .before .before .before in
+    placed (d .least .ensures) (rw (toZ-ofZ (d .before .before .fits .z)) at (c .before .before .before .put-decimal .ensures .put)) (c .further .ensures)
 
 pub decimal-at-spec : {M : Type 1} → statement M
 decimal-at-spec =

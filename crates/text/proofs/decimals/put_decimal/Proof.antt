@@ -10,13 +10,23 @@ use Rattle.text.proofs.decimals.put_decimal.Tie as tie
 
 returns : tie.Need-returns
 returns c =
-    let f = c .before .before .before .before .before .before .before .fits .z in
-    rw (unsigned (c .before .before .before .before .before .before .before .args .z) (f .sfits) (c .before .before .before .before .before .bits .ensures ∙ ap bits32 (toZ-ofZ f)) (omega (arith, c .before .before .before .before .if1 .taken))) at (c .before .before .put-digits .ensures)
+    let d = c .before .before .before .before .before in
+    let f = d .before .before .fits .z in
+    rw (unsigned (d .before .before .args .z) (f .sfits) (d .bits .ensures ∙ ap bits32 (toZ-ofZ f)) (omega (
+      arith,
+      c .before .before .before .before
+          .if1 .taken,
+    ))) at (c .before .before .put-digits .ensures)
 
 returns-2 : tie.Need-returns-2
 returns-2 c =
-    let f = c .before .before .before .before .before .before .before .fits .z in
-    rw (signed (c .before .before .before .before .before .before .before .args .z) (f .sfits) (c .before .before .before .before .before .bits .ensures ∙ ap bits32 (toZ-ofZ f)) (omega (arith, c .before .before .before .before .if1 .left))) at (c .before .before .put-prefixed .ensures)
+    let d = c .before .before .before .before .before in
+    let f = d .before .before .fits .z in
+    rw (signed (d .before .before .args .z) (f .sfits) (d .bits .ensures ∙ ap bits32 (toZ-ofZ f)) (omega (
+      arith,
+      c .before .before .before .before
+          .if1 .left,
+    ))) at (c .before .before .put-prefixed .ensures)
 
 pub put-decimal-spec : {M : Type 1} → statement M
 put-decimal-spec =

@@ -9,7 +9,9 @@ returns : tie.Need-returns
 returns c = passed-over {n = c .before .before .args .length} (omega (arith, c .if1 .taken)) (omega (arith, c .if1 .taken))
 
 returns-2 : tie.Need-returns-2
-returns-2 c = stands {n = c .before .before .before .before .before .before .args .length} (λ z. omega (arith, c .before .before .before .before .if1 .left)) (c .before .before .put8 .ensures)
+returns-2 c =
+    let d = c .before .before .before .before .before .before in
+    stands {n = d .args .length} (λ z. omega (arith, c .before .before .before .before .if1 .left)) (c .before .before .put8 .ensures)
 
 pub put-digit-spec : {M : Type 1} → statement M
 put-digit-spec =

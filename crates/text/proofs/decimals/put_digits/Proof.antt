@@ -8,11 +8,15 @@ use Rattle.text.proofs.decimals.put_digits.Tie as tie
 
 returns : tie.Need-returns
 unfolding mostRounds
-returns c = put-number (c .before .before .put-drawn .ensures) (omega arith) (five-digits (c .before .before .before .before .before .before .args .x) (omega (arith, c .before .before .before .before .if1 .taken)))
+returns c =
+    let d = c .before .before .before .before .before .before in
+    put-number (c .before .before .put-drawn .ensures) (omega arith) (five-digits (d .args .x) (omega (arith, c .before .before .before .before .if1 .taken)))
 
 returns-2 : tie.Need-returns-2
 unfolding mostRounds
-returns-2 c = put-number (c .before .before .put-drawn2 .ensures) (omega arith) (ten-digits (c .before .before .before .before .before .before .args .x) (omega (arith, c .before .before .before .before .before .before .fits .x)))
+returns-2 c =
+    let d = c .before .before .before .before .before .before in
+    put-number (c .before .before .put-drawn2 .ensures) (omega arith) (ten-digits (d .args .x) (omega (arith, d .fits .x)))
 
 pub put-digits-spec : {M : Type 1} → statement M
 put-digits-spec =

@@ -28,7 +28,16 @@ cast-put-digit : tie.Need-cast-put-digit Inv-loop μ-loop
 cast-put-digit c = omega (arith, c .before .before .loop .inv .0)
 
 put-digit-requires : tie.Need-put-digit-requires Inv-loop μ-loop
-put-digit-requires c κs = (omega (arith, c .before .before .loop .inv .0), omega (arith, c .before .before .loop .inv .2, c .before .loop-test .taken, c .before .before .before .before .pre .1))
+put-digit-requires c κs = (
+  omega (arith, c .before .before .loop .inv .0),
+  omega (
+    arith,
+    c .before .before .loop .inv .2,
+    c .before .loop-test
+        .taken,
+    c .before .before .before .before .pre .1,
+  ),
+)
 
 mul-rest : tie.Need-mul-rest Inv-loop μ-loop
 mul-rest c = omega arith
@@ -40,13 +49,15 @@ loop-less : tie.Need-loop-less Inv-loop μ-loop
 loop-less c = search needs
 
 loop-again : tie.Need-loop-again Inv-loop μ-loop
-loop-again c = (
-  omega arith,
-  omega (arith, c .before .before .before .before .loop-test .taken),
-  omega (arith, next-length (c .before .before .put-digit .ensures), c .before .before .before .before .before .loop .inv .2),
-  c .before .before .put-digit .kept .0 ∙ c .before .before .before .before .before .loop .inv .3,
-  λ x f. round-stands (c .before .before .before .before .before .before .before .args .rounds) (c .before .before .before .before .before .loop .round) (c .before .before .before .before .loop-test .taken) (c .before .before .before .before .before .loop .inv .4 x f) (c .before .before .put-digit .ensures),
-)
+loop-again c =
+    let d = c .before .before .before .before .before in (
+      omega arith,
+      omega (arith, c .before .before .before .before .loop-test .taken),
+      omega (arith, next-length (c .before .before .put-digit .ensures), d .loop .inv .2),
+      c .before .before .put-digit .kept .0 ∙ d .loop .inv .3,
+      λ x f. round-stands (d .before .before .args .rounds) (d .loop .round) (c .before .before .before .before .loop-test .taken) (d .loop .inv .4 x f)
+          (c .before .before .put-digit .ensures),
+    )
 
 cast-put8 : tie.Need-cast-put8 Inv-loop μ-loop
 cast-put8 c = omega (arith, c .before .before .loop .inv .0)
@@ -58,17 +69,22 @@ put8-requires : tie.Need-put8-requires Inv-loop μ-loop
 put8-requires c κs = search needs
 
 add-t18 : tie.Need-add-t18 Inv-loop μ-loop
-add-t18 c = omega (arith, c .before .before .before .before .before .loop .inv .2, c .before .before .before .before .before .loop .inv .1, c .before .before .before .before .before .before .before .pre .1)
+add-t18 c =
+    let d = c .before .before .before .before .before in
+    omega (arith, d .loop .inv .2, d .loop .inv .1, d .before .before .pre .1)
 
 same-length : tie.Need-same-length Inv-loop μ-loop
 same-length c = c .before .before .put8 .kept .0 ∙ c .before .before .before .before .before .loop .inv .3
 
 returns : tie.Need-returns Inv-loop μ-loop
-returns c = record {
-  put = λ x f.
-      all-stand (c .before .before .before .before .before .before .before .args .rounds) (c .before .before .before .before .before .loop .round) (c .before .before .before .before .loop-test .left) (c .before .before .before .before .before .loop .inv .4 x f) (c .before .before .put8 .ensures);
-  rounds = omega (arith, c .before .before .before .before .loop-test .left, c .before .before .before .before .before .loop .inv .1);
-}
+returns c =
+    let d = c .before .before .before .before .before in
+    record {
+      put = λ x f.
+          all-stand (d .before .before .args .rounds) (d .loop .round) (c .before .before .before .before .loop-test .left) (d .loop .inv .4 x f) (c
+          .before .before .put8 .ensures);
+      rounds = omega (arith, c .before .before .before .before .loop-test .left, d .loop .inv .1);
+    }
 
 pub put-drawn-spec : {M : Type 1} → statement M
 put-drawn-spec =

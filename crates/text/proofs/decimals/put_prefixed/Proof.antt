@@ -8,9 +8,11 @@ use Rattle.text.proofs.decimals.put_prefixed.Tie as tie
 
 returns : tie.Need-returns
 returns c =
+    let d = c .before .before .before .before .before in
+    let e = d .before .before .before .before .before .before in
     record {
-      put = put-behind (c .before .before .before .before .before .before .before .before .before .before .before .args .letter) (omega (arith, digits-within 9 (c .before .before .before .before .before .before .before .before .before .before .before .args .x) (omega (arith, c .before .before .before .before .before .before .before .before .before .before .before .fits .x)))) (omega (arith, c .before .before .before .before .before .before .before .before .before .before .before .good .0 .0))
-          (c .before .before .before .before .before .before .before .before .put8 .ensures) (placed (c .before .before .before .before .before .least .ensures) (c .before .before .before .put-digits .ensures .put) (c .further .ensures));
+      put = put-behind (e .args .letter) (omega (arith, digits-within 9 (e .args .x) (omega (arith, e .fits .x)))) (omega (arith, e .good .0 .0))
+          (d .before .before .before .put8 .ensures) (placed (d .least .ensures) (c .before .before .before .put-digits .ensures .put) (c .further .ensures));
       rounds = c .before .before .before .put-digits .ensures .rounds;
     }
 
