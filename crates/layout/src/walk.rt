@@ -52,7 +52,7 @@ fn node(nodes: &&[u64], inputs: u16, i: NodeNumber, out: &mut [u8]) -> usize
     }
 }
 
-// The text of a node i without a word, in word w: its first field by its use.
+// The text of node i, which `w` holds, where its kind has no word (a variable, a lift): its first field by its use.
 fn bare(nodes: &&[u64], inputs: u16, i: NodeNumber, w: u64, row: Row, out: &mut [u8]) -> usize
     ensures { λ r. ⌜ Placed (fieldText inputs (childText inputs (now (now (nodes .entry))) (i .0)) false (row .0) (wordA w)) 0 (now (out .entry)) (now (out .exit)) r ⌝ }
 {
@@ -68,7 +68,7 @@ fn bare(nodes: &&[u64], inputs: u16, i: NodeNumber, w: u64, row: Row, out: &mut 
     }
 }
 
-// The text of node i, in word w, that begins with a bracket and a word.
+// The text of node i, which `w` holds, in brackets: the opening one with its kind's word, then its fields.
 fn worded(
     nodes: &&[u64],
     inputs: u16,
@@ -84,7 +84,7 @@ fn worded(
     group(nodes, inputs, i, w, row, out, head)
 }
 
-// The text of an operation, node i in word w.
+// The same of an operation, whose word is its sign.
 fn operation(nodes: &&[u64], inputs: u16, i: NodeNumber, w: u64, row: Row, out: &mut [u8]) -> usize
     ensures { λ r. ⌜ Placed ((40 ∷ operatorText (operatorOf (wordC w))) ++ (fieldsText inputs (childText inputs (now (now (nodes .entry))) (i .0)) true row (wordA w) (wordB w) (wordC w) ++ (41 ∷ []))) 0 (now (out .entry)) (now (out .exit)) r ⌝ }
 {
@@ -92,7 +92,7 @@ fn operation(nodes: &&[u64], inputs: u16, i: NodeNumber, w: u64, row: Row, out: 
     group(nodes, inputs, i, w, row, out, head)
 }
 
-// The fields of node i, in word w, behind its word and up to the closing bracket; gives the next place.
+// The fields of node i, which `w` holds, behind its kind's word and up to the closing bracket; gives the next place.
 fn group(
     nodes: &&[u64],
     inputs: u16,

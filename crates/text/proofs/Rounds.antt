@@ -175,25 +175,27 @@ pub put-number :
     PutNumber (digits x) before after r
 put-number {x} d h f = record { put = d .put x f; rounds = omega (arith, d .rounds) }
 
--- ---- and of up to 64 bits: one round more for the last digit
+-- ---- and of up to 64 bits: one round more for each digit beyond
 
 pub put-short :
     {x : ℕ} {before after : List ℕ} {r : Decimal} → PutNumber (digits x) before after r → PutLong x before after r
 put-short p = record { put = p .put; rounds = λ k h. omega (arith, p .rounds) }
 
-module _ {x : ℕ} {before y : List ℕ} {r : Decimal} (p : PutLong (x / 10) before y r) where
-  pub long-length : x < 18446744073709551616 → r .length < 20
-  long-length h = omega (arith, p .put .counted, digits-within 18 (x / 10) (omega arith))
+pub put-longer :
+    {x : ℕ} {before y after : List ℕ} {r : Decimal} → PutLong (x / 10) before y r → 4294967296 ≤ x →
+    after ≡ set y (r .length) (48 + x % 10) → PutLong x before after (record { length = r .length + 1; rounds = r .rounds + 1 })
+put-longer {x} {r} p h e =
+    record { put = rw (last-digit x (omega arith)) (put-last (48 + x % 10) (p .put) e); rounds = go }
+  where
+    go : (k : ℕ) → x < 4294967296 * 10 ^ k → r .rounds + 1 ≤ mostRounds + k
+    go zero l = absurd (omega arith)
+    go (suc k) l = omega (arith, p .rounds k (omega (arith, rw (pow-succ' 10 k) at l)))
 
-  pub long-rounds : x < 18446744073709551616 → r .rounds ≤ 20
+-- A number of 64 bits has at most 20 digits, and takes at most 20 rounds.
+module _ {x : ℕ} {before after : List ℕ} {r : Decimal} (p : PutLong x before after r) (h : x < 18446744073709551616) where
+  pub long-length : r .length ≤ 20
+  long-length = omega (arith, p .put .counted, digits-within 19 x (omega arith))
+
+  pub long-rounds : r .rounds ≤ 20
   unfolding mostRounds
-  long-rounds h = omega (arith, p .rounds 10 (omega arith))
-
-  pub put-longer :
-      {after : List ℕ} → 4294967296 ≤ x → after ≡ set y (r .length) (48 + x % 10) →
-      PutLong x before after (record { length = r .length + 1; rounds = r .rounds + 1 })
-  put-longer h e = record { put = rw (last-digit x (omega arith)) (put-last (48 + x % 10) (p .put) e); rounds = go }
-    where
-      go : (k : ℕ) → x < 4294967296 * 10 ^ k → r .rounds + 1 ≤ mostRounds + k
-      go zero l = absurd (omega arith)
-      go (suc k) l = omega (arith, p .rounds k (omega (arith, rw (pow-succ' 10 k) at l)))
+  long-rounds = omega (arith, p .rounds 10 (omega arith))
