@@ -9,7 +9,7 @@ use Rattle.lambdamix.specs.Text.{digits}
 use Rattle.text.specs.declared.Decimal.{Decimal}
 use Rattle.text.specs.Places.{Put}
 use Rattle.text.specs.Decimals.{mostRounds, PutNumber, PutLong}
-use Rattle.text.specs.Drawing.{NextDigit, passed-over, stands, Fraction, Draws}
+use Rattle.text.specs.Drawing.{NextDigit, passed-over, stands, one, Fraction, Draws}
 use Rattle.text.proofs.Digits.{one-digit, last-digit, digits-within}
 use Rattle.text.proofs.Writing.{put-none, put-last}
 
@@ -56,20 +56,20 @@ some-passed (suc q) d n e s = omega arith
 -- the whole part of a fraction is a digit, and ten times the rest is the fraction of what follows
 pub record Drawn (t k x : ℕ) : Type 0 where
   pub rest : ℕ
-  pub digit : t / 4294967296 < 10
-  pub whole : x ≡ t / 4294967296 * 10 ^ suc k + rest
-  pub fraction : Fraction (t % 4294967296 * 10) k rest
+  pub digit : t / one < 10
+  pub whole : x ≡ t / one * 10 ^ suc k + rest
+  pub fraction : Fraction (t % one * 10) k rest
 
 pub drawn : (t k x : ℕ) → Fraction t (suc k) x → Drawn t k x
 drawn t k x f =
-    let d : ℕ = t / 4294967296 in
-    let u : ℕ = t % 4294967296 in
+    let d : ℕ = t / one in
+    let u : ℕ = t % one in
     let p : ℕ = 10 ^ suc k in
-    let parts : t * p ≡ 4294967296 * (d * p) + u * p =
-    ap (λ (v : ℕ). v * p) (let e : t ≡ 4294967296 * d + u = omega arith in e)
-    ∙ (add-mul (4294967296 * d) u p ∙ ap (λ (v : ℕ). v + u * p) (mul-assoc 4294967296 d p)) in
-    let under : (u + 1) * p ≤ 4294967296 * p =
-    mul-le-mul (let h : u + 1 ≤ 4294967296 = omega arith in h) (let h : p ≤ p = omega arith in h) in
+    let parts : t * p ≡ one * (d * p) + u * p =
+    ap (λ (v : ℕ). v * p) (let e : t ≡ one * d + u = omega arith in e)
+    ∙ (add-mul (one * d) u p ∙ ap (λ (v : ℕ). v + u * p) (mul-assoc one d p)) in
+    let under : (u + 1) * p ≤ one * p =
+    mul-le-mul (let h : u + 1 ≤ one = omega arith in h) (let h : p ≤ p = omega arith in h) in
     let within : x < 10 * p = rw (pow-succ' 10 (suc k)) at (f .below) in
     let again : u * 10 * 10 ^ k ≡ u * p = mul-assoc u 10 (10 ^ k) ∙ ap (λ (v : ℕ). u * v) (sym (pow-succ' 10 k)) in
     let fits : d * p ≤ x = omega (arith, f .high, parts) in
@@ -108,11 +108,11 @@ put-next-digit q d h p (stands s e) =
     rw (some-digits (10 * q + d) g, next-digits q d h) (put-last (48 + d) p e)
 
 pub next-stands :
-    {x t k : ℕ} {b y z : List ℕ} {n m : ℕ} → Standing x t (suc k) b y n → NextDigit (t / 4294967296) n y z m →
-    Standing x (t % 4294967296 * 10) k b z m
+    {x t k : ℕ} {b y z : List ℕ} {n m : ℕ} → Standing x t (suc k) b y n → NextDigit (t / one) n y z m →
+    Standing x (t % one * 10) k b z m
 next-stands {x} {t} {k} s e =
     let g : Drawn t k (s .rest) = drawn t k (s .rest) (s .fraction) in
-    let d : ℕ = t / 4294967296 in
+    let d : ℕ = t / one in
     record {
       first = 10 * s .first + d;
       rest = g .rest;
@@ -129,10 +129,10 @@ next-stands {x} {t} {k} s e =
 
 -- the last digit is put in any case
 pub last-stands :
-    {x t : ℕ} {b y z : List ℕ} {n : ℕ} → Standing x t 0 b y n → z ≡ set y n (48 + t / 4294967296) → Put (digits x) b z (n + 1)
+    {x t : ℕ} {b y z : List ℕ} {n : ℕ} → Standing x t 0 b y n → z ≡ set y n (48 + t / one) → Put (digits x) b z (n + 1)
 last-stands {x} {t} s e =
     let f = s .fraction in
-    let d : t / 4294967296 ≡ s .rest = omega (arith, f .low, f .high) in
+    let d : t / one ≡ s .rest = omega (arith, f .low, f .high) in
     let w : x ≡ 10 * s .first + s .rest = omega (arith, s .whole) in
     rw (w, next-digits (s .first) (s .rest) (f .below)) (put-last (48 + s .rest) (s .put) (rw d at e))
 
@@ -150,24 +150,24 @@ none-stands {x} rounds f =
 
 pub round-stands :
     {x t : ℕ} {b y z : List ℕ} {n m : ℕ} (rounds round : ℕ) → round < rounds → Standing x t (rounds - round) b y n →
-    NextDigit (t / 4294967296) n y z m → Standing x (t % 4294967296 * 10) (rounds - (round + 1)) b z m
+    NextDigit (t / one) n y z m → Standing x (t % one * 10) (rounds - (round + 1)) b z m
 round-stands rounds round h s e =
     let k : rounds - round ≡ suc (rounds - (round + 1)) = omega arith in
     next-stands (rw k at s) e
 
 pub all-stand :
     {x t : ℕ} {b y z : List ℕ} {n : ℕ} (rounds round : ℕ) → rounds ≤ round → Standing x t (rounds - round) b y n →
-    z ≡ set y n (48 + t / 4294967296) → Put (digits x) b z (n + 1)
+    z ≡ set y n (48 + t / one) → Put (digits x) b z (n + 1)
 all-stand rounds round h s e =
     let k : rounds - round ≡ 0 = omega arith in
     last-stands (rw k at s) e
 
 -- ---- numbers of 32 bits
 
-pub five-digits : (x : ℕ) → x < 100000 → Fraction (x * 4294967296 / 10000 + 1) 4 x
+pub five-digits : (x : ℕ) → x < 100000 → Fraction (x * one / 10000 + 1) 4 x
 five-digits x h = record { below = h; low = omega arith; high = omega arith }
 
-pub ten-digits : (x : ℕ) → x < 4294967296 → Fraction (x * 4294967296 / 1000000000 + 1) 9 x
+pub ten-digits : (x : ℕ) → x < 4294967296 → Fraction (x * one / 1000000000 + 1) 9 x
 ten-digits x h = record { below = omega arith; low = omega arith; high = omega arith }
 
 pub put-number :

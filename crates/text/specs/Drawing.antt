@@ -13,11 +13,15 @@ pub data NextDigit (d : ℕ) : ℕ → List ℕ → List ℕ → ℕ → Type 0 
   passed-over : {n : ℕ} {x : List ℕ} → d ≡ 0 → n ≡ 0 → NextDigit d n x x n
   stands : {n : ℕ} {x y : List ℕ} → (d ≡ 0 → 1 ≤ n) → y ≡ set x n (48 + d) → NextDigit d n x y (n + 1)
 
--- t, in units of 2^-32, stands for x / 10^k: it lies from there to below (x + 1) / 10^k, and x has at most k + 1 digits
+-- a whole, in the units of a fraction
+abbrev pub one : ℕ
+one = 4294967296
+
+-- t, in those units, stands for x / 10^k: it lies from there to below (x + 1) / 10^k, and x has at most k + 1 digits
 pub record Fraction (t k x : ℕ) : Type 0 where
   pub below : x < 10 ^ suc k
-  pub low : 4294967296 * x ≤ t * 10 ^ k
-  pub high : t * 10 ^ k < 4294967296 * suc x
+  pub low : one * x ≤ t * 10 ^ k
+  pub high : t * 10 ^ k < one * suc x
 
 -- the digits of the number that a fraction is of are put, in as many rounds as digits follow its first
 pub record Draws (t k : ℕ) (before after : List ℕ) (r : Decimal) : Type 0 where

@@ -14,8 +14,8 @@ ghost use Rattle.text.specs.Places.{Placed};
 ghost use Rattle.text.specs.Decimals.{PutNumber, PutLong};
 ghost use Rattle.text.specs.Drawing.{NextDigit, Draws};
 
-// A whole in the units of a fraction. A number below this has 32 bits.
-const WHOLE: u64 = 4294967296;
+// One, in the units of a fraction. A number below this has 32 bits.
+const ONE: u64 = 4294967296;
 
 // All bits of 32.
 const HIGHEST: u32 = 4294967295;
@@ -44,11 +44,11 @@ fn put_drawn(out: &mut [u8], fraction: u64, rounds: usize) -> Decimal
     let mut length = 0;
     let mut round = 0;
     while round < rounds {
-        length = put_digit(out, length, (rest / WHOLE) as u8);
-        rest = rest % WHOLE * 10;
+        length = put_digit(out, length, (rest / ONE) as u8);
+        rest = rest % ONE * 10;
         round += 1;
     }
-    put8(out, length, 48 + (rest / WHOLE) as u8);
+    put8(out, length, 48 + (rest / ONE) as u8);
     Decimal {
         length: length + 1,
         rounds: round,
@@ -60,9 +60,9 @@ pub fn put_digits(out: &mut [u8], x: u32) -> Decimal
     ensures { λ r. ⌜ PutNumber (digits x) (now (out .entry)) (now (out .exit)) r ⌝ }
 {
     if x < SHORT {
-        return put_drawn(out, (x as u64) * WHOLE / 10000 + 1, 4);
+        return put_drawn(out, (x as u64) * ONE / 10000 + 1, 4);
     }
-    put_drawn(out, (x as u64) * WHOLE / 1000000000 + 1, 9)
+    put_drawn(out, (x as u64) * ONE / 1000000000 + 1, 9)
 }
 
 // A letter, then the digits of a number.
@@ -93,7 +93,7 @@ pub fn put_decimal(out: &mut [u8], z: i32) -> Decimal
 fn put_long(out: &mut [u8], x: u64) -> Decimal
     ensures { λ r. ⌜ PutLong x (now (out .entry)) (now (out .exit)) r ⌝ }
 {
-    if x < WHOLE {
+    if x < ONE {
         return put_digits(out, x as u32);
     }
     let front = put_long(out, x / 10);
