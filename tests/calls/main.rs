@@ -124,6 +124,7 @@ impl Tally {
         for (name, often) in &self.oddities {
             println!("{name}: {often}");
         }
+        missing += [0, 21].iter().filter(|number| !self.decimals.contains_key(number)).count();
         println!("listings of decimals around the powers of ten, by their numbers: {:?}", self.decimals);
         let differences = self.differences;
         println!("{tried} calls, by the header and by the wrapper: {differences} differences, {missing} not tried");

@@ -1,5 +1,4 @@
--- A number's digits, one after the other: what each round of the loop promises, and all of them. No promise of a number's writer cites this file. Assumes
--- nothing.
+-- A number's digits, one after the other: what each round of the loop promises, and all of them. No public promise cites this file. Assumes nothing.
 use Prim.Native.Nat.{ℕ, suc, _+_, _*_, _^_, _≤_, _<_}
 use mathlib.Core.Path.{_≡_}
 use mathlib.Core.List.{List}

@@ -5,17 +5,18 @@ use crate::Decimal;
 use crate::parts::further;
 use crate::parts::least;
 use script::column::put8;
+use script::word::LIMIT_32;
 use script::word::SIGNED_LIMIT;
 use script::word::bits;
-ghost use Prim.Native.Nat.{_<_};
+ghost use Prim.Native.Nat.{_*_, _<_};
 ghost use mathlib.Core.List.{_∷_};
 ghost use Rattle.lambdamix.specs.Text.{digits, decimal};
 ghost use Rattle.text.specs.Places.{Placed};
 ghost use Rattle.text.specs.Decimals.{PutNumber, PutLong};
-ghost use Rattle.text.specs.Drawing.{NextDigit, Draws};
+ghost use Rattle.text.specs.Drawing.{NextDigit, one, Draws};
 
-// One, in the units of a fraction. A number below this has 32 bits.
-const ONE: u64 = 4294967296;
+// One, in the units of a fraction.
+const ONE: u64 = LIMIT_32;
 
 // All bits of 32.
 const HIGHEST: u32 = 4294967295;
@@ -37,7 +38,7 @@ fn put_digit(out: &mut [u8], length: usize, digit: u8) -> usize
 
 // The digits of a fraction, first to last: one in each round, and one after them all.
 fn put_drawn(out: &mut [u8], fraction: u64, rounds: usize) -> Decimal
-    requires { ⌜ (fraction < 42949672960) × (rounds < 10) ⌝ }
+    requires { ⌜ (fraction < 10 * one) × (rounds < 10) ⌝ }
     ensures { λ r. ⌜ Draws fraction rounds (now (out .entry)) (now (out .exit)) r ⌝ }
 {
     let mut rest = fraction;
@@ -55,7 +56,7 @@ fn put_drawn(out: &mut [u8], fraction: u64, rounds: usize) -> Decimal
     }
 }
 
-// A number in decimal, without leading zeros: the fraction of its first digit's power of ten, 10^4 or 10^9, rounded up.
+// A number in decimal, without leading zeros, from its fraction of 10^4 or of 10^9, rounded up.
 pub fn put_digits(out: &mut [u8], x: u32) -> Decimal
     ensures { λ r. ⌜ PutNumber (digits x) (now (out .entry)) (now (out .exit)) r ⌝ }
 {
@@ -93,7 +94,7 @@ pub fn put_decimal(out: &mut [u8], z: i32) -> Decimal
 fn put_long(out: &mut [u8], x: u64) -> Decimal
     ensures { λ r. ⌜ PutLong x (now (out .entry)) (now (out .exit)) r ⌝ }
 {
-    if x < ONE {
+    if x < LIMIT_32 {
         return put_digits(out, x as u32);
     }
     let front = put_long(out, x / 10);

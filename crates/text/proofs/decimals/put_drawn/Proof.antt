@@ -1,18 +1,18 @@
 -- `text::decimals::put_drawn` meets its contract. The loop's invariant: the digits passed stand, and the fraction of the rest is held. The measure is the
 -- rounds that are left. Assumes nothing.
 use borrow.Author.Needs.{needs}
-use Prim.Native.Nat.{ℕ, suc, _+_, _-_, _≤_, _<_}
-use mathlib.Core.Path.{_≡_, refl, sym, _∙_}
+use Prim.Native.Nat.{ℕ, _*_, _-_, _≤_, _<_}
+use mathlib.Core.Path.{_≡_, _∙_}
 use native.Mathlib.Omega.{arith}
 use lib.ListN.{length}
-use Rattle.text.specs.Drawing.{Fraction}
+use Rattle.text.specs.Drawing.{one, Fraction}
 use Rattle.text.proofs.Rounds.{Standing, none-stands, round-stands, next-length, all-stand}
 use Rattle.text.proofs.decimals.put_drawn.Statement.{statement}
 use Rattle.text.proofs.decimals.put_drawn.Tie as tie
 
 abbrev Inv-loop : tie.InvT-loop
 Inv-loop out₀ fraction rounds rest₀ length₀ round₀ out rest n round =
-    (rest < 42949672960)
+    (rest < 10 * one)
     × (round ≤ rounds)
     × (n ≤ round)
     × (length out ≡ length out₀)
