@@ -48,8 +48,8 @@ module _ (s : Script) (passes-all : scriptRefusal s ≡ none) where
       let content = neither _ _ (neither _ _ passes-all .1) .0 in
       no-record 4 _ _ (neither _ _ (neither _ _ content .1) .0)
 
--- a written script that passes 3 to 11 and fits the widths of a file passes 1 to 11 through its bytes
-through-bytes :
+-- a script that passes 3 to 11 and fits the widths of a file passes 1 to 11 through its bytes
+pub through-bytes :
     (w : Script) → Encodable w → scriptRefusal w ≡ none → annotationRefusal w ≡ none → AcceptedFile (fileBytes w)
 through-bytes w e r a =
     record {
@@ -69,7 +69,7 @@ module _
     (fitting : fits c ≡ true)
   where
     -- the written script fits the widths of a file
-    written-fits : Encodable (written s c)
+    pub written-fits : Encodable (written s c)
     unfolding written nodeAt maxInputs maxNodes inputFits
     written-fits =
         let inputs : length (s .inputs) ≤ maxInputs = leb-true (length (s .inputs)) maxInputs few in
@@ -84,7 +84,7 @@ module _
           nodes = λ j l. each-good s few right scoped names constants fitting j l .encodable;
         }
 
-    written-passes : structureRefusal (written s c) ≡ none → scriptRefusal (written s c) ≡ none
+    pub written-passes : structureRefusal (written s c) ≡ none → scriptRefusal (written s c) ≡ none
     unfolding scriptRefusal orElse written
     written-passes r =
         pass-over 3 0 (orElse (contentRefusal (written s c)) (structureRefusal (written s c)))

@@ -1,0 +1,76 @@
+-- `bands::nodes::node` meets its contract: a row before the last, the last row, an if. Assumes nothing.
+use Prim.Native.Nat.{_+_, _-_, _/_, _%_}
+use mathlib.Core.Path.{_∙_}
+use borrow.Author.Needs.{needs}
+use native.Mathlib.Omega.{arith}
+use mir.Syntax.{w32}
+use mir.Facts.{toZ-ofZ}
+use Rattle.bands.specs.Rows.{maxRows}
+use Rattle.bands.specs.BandScript.{bandNodes}
+use Rattle.bands.proofs.Numbering.{fore-told, last-told, if-told}
+use Rattle.bands.proofs.nodes.node.Statement.{statement}
+use Rattle.bands.proofs.nodes.node.Tie as tie
+
+first-of-requires : tie.Need-first-of-requires
+unfolding maxRows
+first-of-requires c κs = omega (arith, c .pre .few)
+
+part-requires : tie.Need-part-requires
+part-requires c κs = record { before = λ h. omega arith; last = omega arith }
+
+returns : tie.Need-returns
+returns c = fore-told _ _ (c .part .ensures) (omega (arith, c .before .before .before .if1 .taken, c .before .before .before .before .first-of .ensures)) (search needs) (search needs)
+
+part-requires-2 : tie.Need-part-requires-2
+part-requires-2 c κs = record { before = λ h. omega (arith, c .before .before .if1 .left); last = omega arith }
+
+returns-2 : tie.Need-returns-2
+returns-2 c = last-told _ _ (c .part2 .ensures) (c .before .before .before .before .first-of .ensures) (c .before .before .before .before .before .pre .any) (c .before .before .before .if1 .left) (c .before .before .if2 .taken) (search needs)
+
+add-first-of : tie.Need-add-first-of
+unfolding maxRows
+add-first-of c = omega (arith, c .before .before .first-of .ensures, c .before .before .before .pre .few)
+
+add-first-of-2 : tie.Need-add-first-of-2
+unfolding maxRows
+add-first-of-2 c = omega (arith, c .before .before .first-of .ensures, c .before .before .before .pre .few)
+
+sub-first-of : tie.Need-sub-first-of
+unfolding bandNodes
+sub-first-of c = omega (arith, c .before .before .first-of .ensures, c .before .before .before .pre .bound, c .before .before .before .pre .any)
+
+first-of-requires-2 : tie.Need-first-of-requires-2
+unfolding maxRows
+first-of-requires-2 c κs = omega (arith, c .if2 .left, c .before .before .first-of .ensures, c .before .before .before .pre .few)
+
+returns-3 : tie.Need-returns-3
+returns-3 c = if-told _ _ (c .step .ensures) (omega (arith, c .before .first-of2 .ensures, c .before .before .before .before .first-of .ensures)) (omega (arith, c .before .before .if2 .left, c .before .before .before .before .first-of .ensures)) (c .before .before .before .before .before .pre .bound)
+
+pub node-spec : {M : Type 1} → statement M
+node-spec =
+    tie.close
+    (tie.spec
+    (λ c. search needs)
+    first-of-requires
+    (λ c. search needs)
+    (λ c. search needs)
+    (λ c κs. tt)
+    (λ c. search needs)
+    (λ c κs. tt)
+    part-requires
+    returns
+    (λ c. search needs)
+    (λ c. search needs)
+    (λ c. search needs)
+    (λ c κs. tt)
+    part-requires-2
+    returns-2
+    add-first-of
+    add-first-of-2
+    sub-first-of
+    first-of-requires-2
+    (λ c. search needs)
+    (λ c. search needs)
+    (λ c. search needs)
+    (λ c κs. tt)
+    returns-3)

@@ -1,0 +1,4 @@
+pub mod Rows
+pub mod BandScript
+pub mod Calls
+pub mod Steps
