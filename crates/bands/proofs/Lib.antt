@@ -4,3 +4,6 @@ pub mod Numbering
 pub mod Filling
 pub mod Acceptance
 pub mod Writing
+pub mod Order
+pub mod Spans
+pub mod Covering

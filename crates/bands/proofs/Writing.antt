@@ -128,6 +128,6 @@ pub row-count : (m : ℕ) (x : Columns) → columnsRefusal m x ≡ none → RowC
 unfolding columnsRefusal rowsRefusal countRight
 row-count m x e =
     let counted = not-refused _ 30 0 (neither _ _ (neither _ _ e .1) .0) in
-    let (a, b) = and-both _ _ counted in
+    let both = and-both (leb 1 (length (rowsIn m x))) (leb (length (rowsIn m x)) maxRows) counted in
     let n = rows-length m x in
-    record { any = omega (arith, n, leb-true 1 (length (rowsIn m x)) a); few = rw n at (leb-true (length (rowsIn m x)) maxRows b) }
+    record { any = rw n at (leb-true 1 (length (rowsIn m x)) (both .0)); few = rw n at (leb-true (length (rowsIn m x)) maxRows (both .1)) }
