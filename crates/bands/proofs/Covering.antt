@@ -268,3 +268,36 @@ module _ (rows : List Band) (fit : (k : ℕ) → k < length rows → BandFits (b
       joins = good-joins g;
     }),
   )
+
+  -- ---- how a reading of a row stands to the lows
+
+  module _ (e : rowsRefusal rows ≡ none) {z : ℤ} (f : Fits32 z) {k : ℕ} (h : FallsIn z rows k) where
+    abbrev passed : Passed
+    passed = passed-by e
+
+    abbrev ordered : (k : ℕ) → k < length rows → first k ≤ last k
+    ordered = ordered-by (λ k l. right-good (bandAt rows k) (passed .right k l))
+
+    -- it is below the next row's,
+    pub below-next : suc k < length rows → ltZ z (bandAt rows (suc k) .low) ≡ true
+    below-next l =
+        lt-place z (bandAt rows (suc k) .low) (near z f) (low-near (suc k) l)
+        ∙ lt-ltb (place z) (first (suc k)) (omega (arith, falls-lies z f k h .to, apart-by (passed .above) k l))
+
+    -- and not below any before
+    pub not-below : (j : ℕ) → j ≤ k → ltZ z (bandAt rows j .low) ≡ false
+    not-below j l =
+        lt-place z (bandAt rows j .low) (near z f) (low-near j (omega (arith, h .row)))
+        ∙ le-ltb (place z) (first j) (⊎-elim (λ t. earlier (ltb-true j k t)) (λ t. same (ltb-false j k t)) (holds-or-fails (ltb j k)))
+      where
+        earlier : j < k → first j ≤ place z
+        earlier d =
+            omega (
+              arith,
+              before first last (length rows) ordered (apart-by (passed .above)) j k d (h .row),
+              ordered j (omega (arith, h .row)),
+              falls-lies z f k h .from,
+            )
+
+        same : k ≤ j → first j ≤ place z
+        same d = let q : j ≡ k = omega arith in rw q (falls-lies z f k h .from)

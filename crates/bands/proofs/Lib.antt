@@ -7,3 +7,4 @@ pub mod Writing
 pub mod Order
 pub mod Spans
 pub mod Covering
+pub mod Grading
