@@ -175,8 +175,8 @@ module _ (rows : List Band) (fit : (k : ℕ) → k < length rows → BandFits (b
       one z f ordered apart =
           let (a, b) = fits-places z f in
           let (i, h) =
-              each-found first last (length rows) 1 4294967296 (begins-by (p .any) (p .joins 0 (omega arith)))
-              (λ k l. joined-by k l (p .joins (suc k) (omega arith))) (λ k e. ends-by k e (p .joins (suc k) (omega arith))) (p .any) (place z) a b in
+          each-found first last (length rows) 1 4294967296 (begins-by (p .any) (p .joins 0 (omega arith)))
+          (λ k l. joined-by k l (p .joins (suc k) (omega arith))) (λ k e. ends-by k e (p .joins (suc k) (omega arith))) (p .any) (place z) a b in
           record {
             index = i;
             falls = lies-falls z f i h;
@@ -260,13 +260,13 @@ module _ (rows : List Band) (fit : (k : ℕ) → k < length rows → BandFits (b
   rows-accepted = (
     λ e. passed-good (passed-by e),
     λ g.
-    passed-none (record {
-      any = g .any;
-      few = g .few;
-      right = λ k l. good-right (bandAt rows k) (g .each k l);
-      above = good-above g;
-      joins = good-joins g;
-    }),
+        passed-none (record {
+          any = g .any;
+          few = g .few;
+          right = λ k l. good-right (bandAt rows k) (g .each k l);
+          above = good-above g;
+          joins = good-joins g;
+        }),
   )
 
   -- ---- how a reading of a row stands to the lows

@@ -26,14 +26,17 @@ use Rattle.lambdamix.proofs.Erasure.{plain-job}
 use Rattle.lambdamix.proofs.PlainRun.{plain-deeper, evaluated-by-rules}
 use Rattle.lambdamix.proofs.WrittenTree.{writtenTerm, written-tree, WellFormed, formed-lit, formed-ref, formed-form, formed-nil, formed-cons}
 use Rattle.script.specs.Widths.{AllFit}
-use Rattle.script.specs.File.{scriptIn, fileBytes}
+use Rattle.script.specs.File.{scriptIn, fileBytes, typeFrom, inputFrom, nodeFrom, typeOffset, inputOffset, nodeOffset, headTypes, headInputs, headNodes}
 use Rattle.script.specs.Refusals.{scriptRefusal}
 use Rattle.script.specs.Tables.{Tables, tablesScript, longEnough, tablesRefusal, over}
 use Rattle.file.specs.Encodable.{Encodable}
+use Rattle.file.specs.AcceptedFile.{AcceptedFile}
 use Rattle.annotation.specs.Checks.{checkRefusal}
 use Rattle.cells.specs.Room.{heapSuffices}
 use Rattle.plainrun.specs.Running.{refusalBefore, ranUnless, afterPlain, running}
 use Rattle.file.proofs.FileLaws.{read-written}
+use Rattle.script.specs.Replies.{headCounts}
+use Rattle.script.proofs.Numbered.{length-numbered}
 use Rattle.script.proofs.RefusalLaws.{neither}
 use Rattle.bands.specs.Rows.{Band, bandAt, maxRows, rowsRefusal, FallsIn, BandFits}
 use Rattle.bands.specs.BandScript.{rowPart, bandCode, oneInput, bandScript, bandNodes, bandLength}
@@ -41,8 +44,8 @@ use Rattle.bands.specs.Calls.{Columns, rowIn, rowsIn, bandBytes, columns
 use Rattle.bands.specs.Grading.{bandSteps, bandDepth, GradesAs, bandFile, HoldFile, RunGives, GradesByRows}
 use Rattle.bands.proofs.RowTests.{rows-length, band-at}
 use Rattle.bands.proofs.Acceptance.{script-passes, script-accepted}
-use Rattle.bands.proofs.Writing.{band-length, row-count, columns-fit}
-use Rattle.bands.proofs.Covering.{below-next, not-below}
+use Rattle.bands.proofs.Writing.{script-nodes, band-length, row-count, columns-fit}
+use Rattle.bands.proofs.Covering.{rows-accepted, below-next, not-below}
 
 -- ---- the part of a row, by the rules of Figure 1
 
@@ -120,7 +123,7 @@ unfolding bandSteps bandDepth bandScript bandCode plainJob numbersFrom bandAt
 graded-by-rules [] fit e z f k h = let c : ⊥ = omega (arith, h .row) in absurd c
 graded-by-rules (r ∷ rows) fit e z f k h =
     let chosen =
-        selects z r rows k (h .row) (λ j l. not-below (r ∷ rows) fit e f h (suc j) l) (λ l. below-next (r ∷ rows) fit e f h (omega arith)) in
+    selects z r rows k (h .row) (λ j l. not-below (r ∷ rows) fit e f h (suc j) l) (λ l. below-next (r ∷ rows) fit e f h (omega arith)) in
     let d : suc (suc (length rows)) ≡ length (r ∷ rows) + 1 = omega arith in
     record {
       steps = stepsTo (length rows) k;
@@ -161,11 +164,31 @@ module _ (m : ℕ) (x : Columns) (low : AllFit (x .low)) (high : AllFit (x .high
     passes : Encodable (bandScript (rowsIn m x)) × (scriptRefusal (bandScript (rowsIn m x)) ≡ none) × (annotationRefusal (bandScript (rowsIn m x)) ≡ none)
     passes = script-passes (rowsIn m x) some-rows few-rows (columns-fit m x low grade)
 
+    file-script : (out : List ℕ) → scriptIn (bandFile m (over (bandBytes m x) out)) ≡ bandScript (rowsIn m x)
+    unfolding bandBytes
+    file-script out = ap scriptIn (file-left out) ∙ read-written (bandScript (rowsIn m x)) (passes .0)
+
+    file-counts : (out : List ℕ) → headCounts (bandFile m (over (bandBytes m x) out)) ≡ record { types = 0; inputs = 1; nodes = bandNodes m }
+    unfolding headCounts scriptIn bandScript written
+    file-counts out =
+        let bs = bandFile m (over (bandBytes m x) out) in
+        let e = file-script out in
+        λ i.
+        record {
+          types = (sym (length-numbered (λ j. typeFrom bs (typeOffset j)) 0 (headTypes bs)) ∙ ap (λ (s : Script). length (s .types)) e) i;
+          inputs = (sym (length-numbered (λ j. inputFrom bs (inputOffset (headTypes bs) j)) 0 (headInputs bs)) ∙ ap (λ (s : Script). length (s .inputs)) e) i;
+          nodes =
+              (sym (length-numbered (λ j. nodeFrom bs (nodeOffset (headTypes bs) (headInputs bs) j)) 0 (headNodes bs))
+              ∙ ap (λ (s : Script). length (s .nodes)) e
+              ∙ script-nodes (rowsIn m x) some-rows
+              ∙ ap bandNodes (rows-length m x))
+              i;
+        }
+
     module _ (out : List ℕ) {y : Tables} (h : HoldFile m (over (bandBytes m x) out) y) where
       -- tables that hold the file hold the rows' script
       holds : tablesScript 0 1 (bandNodes m) y ≡ bandScript (rowsIn m x)
-      unfolding bandBytes
-      holds = h .script ∙ ap scriptIn (file-left out) ∙ read-written (bandScript (rowsIn m x)) (passes .0)
+      holds = h .script ∙ file-script out
 
       tables-checked : checkRefusal 0 1 (bandNodes m) y ≡ none
       unfolding checkRefusal tablesRefusal orElse refusedUnless
@@ -190,3 +213,15 @@ module _ (m : ℕ) (x : Columns) (low : AllFit (x .low)) (high : AllFit (x .high
               gives = rw (h .long, holds, passes .1, enough, evaluated-by-rules (bandScript (rowsIn m x)) (z ∷ []) maxFuel (aNumber g) (graded .steps) .1 evaluates);
               few = rw (← rows-length m x) (graded .few);
             }
+
+    -- all that is promised of it
+    pub rows-grade : (out : List ℕ) → GradesByRows m x (over (bandBytes m x) out)
+    unfolding bandBytes
+    rows-grade out =
+        record {
+          good = rows-accepted (rowsIn m x) rows-fit .0 rows-pass;
+          counts = file-counts out;
+          accepted = subst⁻¹ AcceptedFile (file-left out) (script-accepted (rowsIn m x) some-rows few-rows (columns-fit m x low grade));
+          checked = λ y h. tables-checked out h;
+          graded = λ y h heap enough z f k i. run-gives out h heap enough z (bandAt (rowsIn m x) k .grade) (graded-by-rules (rowsIn m x) rows-fit rows-pass z f k i);
+        }

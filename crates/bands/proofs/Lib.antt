@@ -8,3 +8,4 @@ pub mod Order
 pub mod Spans
 pub mod Covering
 pub mod Grading
+pub mod Calls

@@ -38,7 +38,7 @@ use Rattle.bands.proofs.Acceptance.{Fitting, script-passes}
 
 -- ---- the length of the file
 
-script-nodes : (rows : List Band) → 1 ≤ length rows → length (bandScript rows .nodes) ≡ bandNodes (length rows)
+pub script-nodes : (rows : List Band) → 1 ≤ length rows → length (bandScript rows .nodes) ≡ bandNodes (length rows)
 unfolding bandScript bandCode bandNodes written
 script-nodes [] h = let z : ⊥ = omega arith in absurd z
 script-nodes (r ∷ rows) h = nodes-size (rowPart r rows) 0 ∙ omega (arith, part-size r rows)
@@ -75,7 +75,7 @@ module _ (m : ℕ) (x : Columns) {ks xs ys zs : List ℕ} {vs : List ℤ} where
   unfolding tablesScript rowInput rowNode numbered bandScript written nodeAt
   script-held c h =
       let n : bandNodes m ≡ length (bandScript (rowsIn m x) .nodes) =
-          sym (script-nodes (rowsIn m x) (omega (arith, rows-length m x, c .any)) ∙ ap bandNodes (rows-length m x)) in
+      sym (script-nodes (rowsIn m x) (omega (arith, rows-length m x, c .any)) ∙ ap bandNodes (rows-length m x)) in
       λ i.
       record {
         types = [];

@@ -14,10 +14,14 @@ use Rattle.lambdamix.specs.PlainRun.{aNumber, plainJob}
 use Rattle.lambdamix.specs.PlainRules.{Evaluates}
 use Rattle.script.specs.File.{scriptIn}
 use Rattle.script.specs.Tables.{Tables, tablesScript, longEnough}
+use Rattle.script.specs.declared.Reading.{Reading}
+use Rattle.script.specs.declared.Verdict.{Verdict}
+use Rattle.script.specs.Replies.{headCounts, readingReply, verdictReply, Reads, Tells}
 use Rattle.file.specs.AcceptedFile.{AcceptedFile}
 use Rattle.annotation.specs.Checks.{checkRefusal}
 use Rattle.cells.specs.Room.{heapSuffices}
-use Rattle.plainrun.specs.Running.{ran, running}
+use Rattle.plainrun.specs.declared.Reply as Ran
+use Rattle.plainrun.specs.Running.{ran, running, replied, Runs}
 use Rattle.bands.specs.Rows.{Band, bandAt, FallsIn, GoodRows}
 use Rattle.bands.specs.BandScript.{bandScript, bandNodes, bandLength}
 use Rattle.bands.specs.Calls.{Columns, rowsIn}
@@ -53,6 +57,8 @@ pub record RunGives (m : ℕ) (y : Tables) (heap : List ℕ) (z g : ℤ) : Type 
 pub record GradesByRows (m : ℕ) (x : Columns) (left : List ℕ) : Type 0 where
   -- "1 to 32 rows, rising, .. every 32-bit reading falls in exactly one"
   pub good : GoodRows (rowsIn m x)
+  -- "one late input and no types": what the file's head counts
+  pub counts : headCounts (bandFile m left) ≡ record { types = 0; inputs = 1; nodes = bandNodes m }
   -- "It is accepted": the file in the output by its bytes, 1 to 11,
   pub accepted : AcceptedFile (bandFile m left)
   -- and by `check` on tables that hold its script
@@ -61,3 +67,13 @@ pub record GradesByRows (m : ℕ) (x : Columns) (left : List ℕ) : Type 0 where
   pub graded :
       (y : Tables) → HoldFile m left y → (heap : List ℕ) → heapSuffices maxFuel (length heap) ≡ true → (z : ℤ) → Fits32 z → (k : ℕ) →
       FallsIn z (rowsIn m x) k → RunGives m y heap z (bandAt (rowsIn m x) k .grade)
+
+-- The same as the entries tell it, one call after the other: the reader's call on the file in the output, with tables that are long enough, then the checker's and
+-- the plain run's calls on the tables that it filled.
+pub record ServesCalls (m : ℕ) (x : Columns) (left : List ℕ) (y z : Tables) : Type 0 where
+  pub read : (q : Reading) → Reads (bandFile m left) y z q → readingReply q .number ≡ 0
+  pub checked : (v : Verdict) → Tells (checkRefusal 0 1 (bandNodes m) z) v → verdictReply v .number ≡ 0
+  pub graded :
+      (reading : ℤ) → Fits32 reading → (k : ℕ) → FallsIn reading (rowsIn m x) k → (heap after : List ℕ) → heapSuffices maxFuel (length heap) ≡ true →
+      (a : Ran.Reply) → Runs (record { types = 0; inputs = 1; nodes = bandNodes m }) z (reading ∷ []) maxFuel heap after a →
+      (steps : ℕ) × (replied a ≡ ran (aNumber (bandAt (rowsIn m x) k .grade)) steps) × (steps ≤ bandSteps m)

@@ -70,7 +70,12 @@ fn node(count: u16, low: &[i32], high: &[i32], grade: &[i32], i: u16) -> BandNod
     let after = first_of(last);
     if i < after {
         let row = i / 6;
-        return part(i % 6, i, at32(low, (row + 1) as usize), at32(grade, row as usize));
+        return part(
+            i % 6,
+            i,
+            at32(low, (row + 1) as usize),
+            at32(grade, row as usize),
+        );
     }
     if i < after + 2 {
         return part(i - after + 4, i, 0, at32(grade, last as usize));
