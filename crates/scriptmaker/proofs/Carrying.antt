@@ -23,6 +23,7 @@ use Rattle.plainrun.specs.declared.Reply as Plain
 use Rattle.plainrun.specs.Running as Running
 use Rattle.plainrun.specs.Running.{Runs, RunsAs}
 use Rattle.printer.specs.ListCalls.{ListsTables, ListsAs}
+use Rattle.bands.specs.Calls.{Columns, MakesBands, MakesBandsAs}
 use Rattle.scriptmaker.specs.declared.Counts.{Counts}
 use Rattle.scriptmaker.specs.declared.ReadReply.{ReadReply}
 use Rattle.scriptmaker.specs.declared.WriteReply.{WriteReply}
@@ -41,6 +42,11 @@ writes-text :
     {f : Option Refusal} {text before after : List ℕ} {r : Writing} {q : WriteReply} → WritesText f text before after r →
     q ≡ writeReply (writingReply r) → WritesTextAs (holding writeReply) f text before after q
 writes-text h e = record { reply = e ∙ ap writeReply (h .reply); output = h .output }
+
+pub makes-bands :
+    {m : ℕ} {x : Columns} {before after : List ℕ} {r : Writing} {q : WriteReply} → MakesBands m x before after r → q ≡ writeReply (writingReply r) →
+    MakesBandsAs (holding writeReply) m x before after q
+makes-bands h e = record { text = writes-text (h .text) e; low = h .low; high = h .high; grade = h .grade }
 
 module _ {n : Counts} {m : Script.Counts} (same : m ≡ countsOf n) where
   pub writes :

@@ -55,15 +55,24 @@ pub fn differ(
         differences += 1;
         if differences == 1 {
             tell(index, &wanted, got.as_deref());
-            if let Some(path) = keep {
-                fs::write(path, &input).map_err(|e| format!("{}: {e}", path.display()))?;
-            }
+            keep_first(keep, &input)?;
         }
     }
+    Ok(sum_up(&replies, count, differences))
+}
+
+/// Keeps an input in a file, if there is one for it.
+pub fn keep_first(keep: Option<&Path>, input: &[u8]) -> Result<(), String> {
+    let Some(path) = keep else { return Ok(()) };
+    fs::write(path, input).map_err(|e| format!("{}: {e}", path.display()))
+}
+
+/// Prints how often each reply occurred, and tells whether there were no differences.
+pub fn sum_up(replies: &BTreeMap<u8, u64>, count: u64, differences: u64) -> bool {
     let often: Vec<String> = replies.iter().map(|(n, often)| format!("{n}: {often}")).collect();
     println!("{}", often.join(", "));
     println!("{count} inputs, {differences} differences");
-    Ok(differences == 0)
+    differences == 0
 }
 
 /// Prints a difference.
@@ -75,7 +84,7 @@ fn tell(index: u64, wanted: &str, got: Option<&[u8]>) {
     }
 }
 
-fn shortened(text: &[u8]) -> String {
+pub fn shortened(text: &[u8]) -> String {
     String::from_utf8_lossy(&text[..text.len().min(200)]).into_owned()
 }
 

@@ -1,6 +1,7 @@
-//! Each entry on one script file, and all that was lent, printed: what the callers in `tests/entries` print.
+//! Each entry on one script file, and all that was lent, printed: what the callers in `tests/entries` print. The entry for bands
+//! takes rows, and has a function of its own.
 
-use crate::lent::{Columns, Entry, Memory};
+use crate::lent::{Answer, BandCall, Columns, Entry, Memory};
 use crate::script::{Counts, MAX_INPUTS, MAX_NODES, MAX_TYPES};
 use crate::specializer::MAX_FUEL;
 use std::fmt::Display;
@@ -104,4 +105,13 @@ pub fn entries(file: &[u8], fuel: u32, lengths: [usize; 3], numbers: &[i32]) -> 
         entries.iter().map(|&(entry, name)| told(entry, name, &mut memory)).collect()
     };
     all(few, &[read, write, list, check, make, bare_run, run]) + &all(any, &[read, make, run])
+}
+
+/// The entry for bands on columns of any lengths, with an output of this length.
+pub fn bands(count: u16, room: usize, columns: [Vec<i32>; 3]) -> String {
+    let [low, high, grade] = columns;
+    let mut call = BandCall { count, low, high, grade, out: vec![BandCall::FRESH; room] };
+    let Answer { number, place, length, .. } = call.call();
+    let reply = format!("bands: number {number} place {place} length {length}\n");
+    reply + &places("out", &call.out)
 }

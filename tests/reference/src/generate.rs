@@ -1,6 +1,8 @@
 //! A seeded corpus of `benchmake` inputs: scripts well typed by construction,
-//! ill typed scripts, and damaged files; and one of `benchrun` inputs.
+//! ill typed scripts, and damaged files; and one of `benchrun` inputs. Rows for
+//! coin sensors have a part of their own.
 
+pub mod bands;
 mod builder;
 mod damaged;
 mod ends;

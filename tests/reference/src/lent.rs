@@ -1,5 +1,6 @@
 //! The entries on lent memory: the reply of each, and what it leaves in what it was lent.
 
+use crate::bands::{self, Row};
 use crate::checker;
 use crate::listing::listing;
 use crate::plain::{run, Outcome};
@@ -131,6 +132,15 @@ fn put<T: Copy>(lent: &mut [T], first: &[T]) {
     lent[..first.len()].copy_from_slice(first);
 }
 
+/// A text into an output; a short output gives 21.
+fn written(out: &mut [u8], text: &[u8]) -> Result<Answer, Reply> {
+    if out.len() < text.len() {
+        return Err(Reply::new(21, 0));
+    }
+    put(out, text);
+    Ok(Answer { length: text.len(), ..Answer::SUCCESS })
+}
+
 impl Memory {
     /// A script's file and its tables, no stores, and an output of zeros.
     pub fn of(script: &Script, room: usize) -> Memory {
@@ -164,15 +174,6 @@ impl Memory {
         Ok(Answer { counts: script.counts(), ..Answer::SUCCESS })
     }
 
-    /// A text into the output; a short output gives 21.
-    fn written(&mut self, text: &[u8]) -> Result<Answer, Reply> {
-        if self.out.len() < text.len() {
-            return Err(Reply::new(21, 0));
-        }
-        put(&mut self.out, text);
-        Ok(Answer { length: text.len(), ..Answer::SUCCESS })
-    }
-
     /// The stores hold zeros after any run, and are untouched before it.
     fn made(&mut self, script: &Script) -> Result<Answer, Reply> {
         let lent = Lent { store: self.heap.len(), code: self.codes.len(), output: MAX_NODES };
@@ -183,7 +184,8 @@ impl Memory {
         }
         let made = outcome?;
         let (steps, nodes) = (made.steps, made.script.nodes.len());
-        let answer = self.written(&encode(&made.script)).map_err(|r| Reply { steps, ..r })?;
+        let answer = written(&mut self.out, &encode(&made.script));
+        let answer = answer.map_err(|reply| Reply { steps, ..reply })?;
         Ok(Answer { steps, nodes, ..answer })
     }
 
@@ -207,8 +209,8 @@ impl Memory {
         }
         let script = self.script()?;
         match entry {
-            Entry::Write => return self.written(&encode(&script)),
-            Entry::List => return self.written(listing(&script).as_bytes()),
+            Entry::Write => return written(&mut self.out, &encode(&script)),
+            Entry::List => return written(&mut self.out, listing(&script).as_bytes()),
             Entry::BareRun => return self.made(&script),
             Entry::Run => return self.ran(&script),
             _ => checker::check(&script)?,
@@ -222,5 +224,51 @@ impl Memory {
     /// Calls an entry.
     pub fn call(&mut self, entry: Entry) -> Answer {
         self.answer(entry).unwrap_or_else(Answer::without)
+    }
+}
+
+/// All that a call for bands is lent: a count of rows, the rows as columns of any lengths, and an output.
+#[derive(Clone, Debug, PartialEq, Eq)]
+pub struct BandCall {
+    pub count: u16,
+    pub low: Vec<i32>,
+    pub high: Vec<i32>,
+    pub grade: Vec<i32>,
+    pub out: Vec<u8>,
+}
+
+impl BandCall {
+    /// What a fresh output holds in each place.
+    pub const FRESH: u8 = 238;
+
+    /// Some rows, and a fresh output.
+    pub fn of(rows: &[Row], room: usize) -> BandCall {
+        BandCall {
+            count: rows.len() as u16,
+            low: rows.iter().map(|row| row.low).collect(),
+            high: rows.iter().map(|row| row.high).collect(),
+            grade: rows.iter().map(|row| row.grade).collect(),
+            out: vec![BandCall::FRESH; room],
+        }
+    }
+
+    /// The first rows, as many as the count says. Columns shorter than that give 1 [0].
+    pub fn rows(&self) -> Result<Vec<Row>, Reply> {
+        let count = usize::from(self.count);
+        if self.low.len().min(self.high.len()).min(self.grade.len()) < count {
+            return Err(Reply::new(1, 0));
+        }
+        let row = |k| Row { low: self.low[k], high: self.high[k], grade: self.grade[k] };
+        Ok((0..count).map(row).collect())
+    }
+
+    fn answer(&mut self) -> Result<Answer, Reply> {
+        let script = bands::script(&self.rows()?)?;
+        written(&mut self.out, &encode(&script))
+    }
+
+    /// Calls the entry. A refusal leaves the output alone, and so does a success past the file.
+    pub fn call(&mut self) -> Answer {
+        self.answer().unwrap_or_else(Answer::without)
     }
 }

@@ -3,6 +3,11 @@
 
 pub mod arithmetic;
 pub mod assemble;
+pub mod band_calls;
+pub mod band_checks;
+pub mod band_differ;
+pub mod band_trials;
+pub mod bands;
 pub mod benchmake;
 pub mod benchrun;
 pub mod checker;

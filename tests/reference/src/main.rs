@@ -8,8 +8,8 @@ use std::process::ExitCode;
 
 use reference::decimal_trials::{self, Printed};
 use reference::script::Reply;
-use reference::{assemble, benchmake, benchrun, checker, differ, entries, generate, makes, runs};
-use reference::{script, self_check};
+use reference::{assemble, band_calls, band_differ, benchmake, benchrun, checker, differ, entries};
+use reference::{generate, makes, runs, script, self_check};
 
 const USAGE: &str = "commands:
   self-check
@@ -29,9 +29,11 @@ const USAGE: &str = "commands:
   pack-makes FILE SEED COUNT
   pack-runs FILE SEED COUNT
   pack-readings FILE SEED COUNT
-  packed read|check|benchmake|make|run|benchrun FILE
+  pack-bands FILE SEED COUNT
+  packed read|check|benchmake|make|run|benchrun|bands FILE
   entries FILE FUEL HEAP CODES OUT [NUMBER..]
-  differ benchmake|benchrun PROGRAM SEED COUNT [FILE]
+  bands COUNT OUT LOWS HIGHS GRADES
+  differ benchmake|benchrun|bands PROGRAM SEED COUNT [FILE]
 ";
 
 fn main() -> ExitCode {
@@ -76,10 +78,10 @@ fn run(words: &[&str]) -> Result<bool, String> {
             let lengths = [number(heap)?, number(codes)?, number(out)?].map(|n| n as usize);
             call_entries(file, number(fuel)? as u32, lengths, numbers)
         }
+        ["bands", count, out, lows, highs, grades] => call_bands(count, out, [lows, highs, grades]),
         ["differ", name, path, seed, count, ref file @ ..] if file.len() < 2 => {
-            let program = program(name)?;
             let keep = file.first().map(Path::new);
-            differ::differ(&program, path, number(seed)?, number(count)?, keep)
+            differ_from(name, path, number(seed)?, number(count)?, keep)
         }
         [what, file, seed, count] => pack_seeded(what, file, number(seed)?, number(count)?),
         _ => Err(USAGE.to_string()),
@@ -109,6 +111,7 @@ fn pack_seeded(what: &str, file: &str, seed: u64, count: u64) -> Result<bool, St
         }
         "pack-makes" => pack_all(file, &makes::calls(seed, count as usize)),
         "pack-runs" => pack_all(file, &runs::calls(seed, count as usize)),
+        "pack-bands" => pack_all(file, &band_calls::calls(seed, count as usize)),
         _ => Err(USAGE.to_string()),
     }
 }
@@ -131,6 +134,7 @@ fn packed(what: &str, file: &str) -> Result<bool, String> {
         "make" => tell_packed(file, makes::told),
         "run" => tell_packed(file, runs::told),
         "benchrun" => tell_packed(file, benchrun::benchrun),
+        "bands" => tell_packed(file, band_calls::told),
         _ => Err(USAGE.to_string()),
     }
 }
@@ -143,15 +147,37 @@ fn call_entries(
     words: &[&str],
 ) -> Result<bool, String> {
     let bytes = fs::read(file).map_err(|e| format!("{file}: {e}"))?;
-    let number = |word: &&str| word.parse().map_err(|_| format!("{word} is no number"));
-    let numbers: Result<Vec<i32>, String> = words.iter().map(number).collect();
-    print(entries::entries(&bytes, fuel, lengths, &numbers?).as_bytes())
+    let numbers = signed_numbers(words.iter().copied())?;
+    print(entries::entries(&bytes, fuel, lengths, &numbers).as_bytes())
 }
 
-fn program(name: &str) -> Result<differ::Program, String> {
+/// Calls the entry for bands. A column is one word, with commas between its numbers.
+fn call_bands(count: &str, out: &str, columns: [&str; 3]) -> Result<bool, String> {
+    let count = count.parse().map_err(|_| format!("{count} is no count"))?;
+    let column = |k: usize| match columns[k] {
+        "" => Ok(vec![]),
+        word => signed_numbers(word.split(',')),
+    };
+    let columns = [column(0)?, column(1)?, column(2)?];
+    print(entries::bands(count, number(out)? as usize, columns).as_bytes())
+}
+
+fn signed_numbers<'w>(words: impl Iterator<Item = &'w str>) -> Result<Vec<i32>, String> {
+    words.map(|word| word.parse().map_err(|_| format!("{word} is no number"))).collect()
+}
+
+/// Compares a built program with the own answers.
+fn differ_from(
+    name: &str,
+    path: &str,
+    seed: u64,
+    count: u64,
+    keep: Option<&Path>,
+) -> Result<bool, String> {
     match name {
-        "benchmake" => Ok(differ::BENCHMAKE),
-        "benchrun" => Ok(differ::BENCHRUN),
+        "benchmake" => differ::differ(&differ::BENCHMAKE, path, seed, count, keep),
+        "benchrun" => differ::differ(&differ::BENCHRUN, path, seed, count, keep),
+        "bands" => band_differ::differ(path, seed, count, keep),
         _ => Err(USAGE.to_string()),
     }
 }

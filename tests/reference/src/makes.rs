@@ -74,11 +74,16 @@ pub fn told(packed: &[u8]) -> String {
             if file.len() > call.output {
                 return format!("21 0 {} 0\n", made.steps);
             }
-            let bytes: String = file.iter().map(|byte| format!("{byte:02x}")).collect();
-            format!("0 0 {} {}\n{bytes}\n", made.steps, made.script.nodes.len())
+            format!("0 0 {} {}\n{}", made.steps, made.script.nodes.len(), told_file(&file))
         }
         Err(Reply { number, place, steps }) => format!("{number} {place} {steps} 0\n"),
     }
+}
+
+/// Each byte of a file, on one line.
+pub fn told_file(file: &[u8]) -> String {
+    let bytes: String = file.iter().map(|byte| format!("{byte:02x}")).collect();
+    bytes + "\n"
 }
 
 fn file(text: &str) -> Vec<u8> {

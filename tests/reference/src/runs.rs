@@ -51,9 +51,13 @@ impl Call {
     }
 }
 
-/// Number, place, steps, 1 for a function, and the number of the result.
 pub fn told(packed: &[u8]) -> String {
-    match Call::unpack(packed).answer() {
+    told_run(Call::unpack(packed).answer())
+}
+
+/// Number, place, steps, 1 for a function, and the number of the result.
+pub fn told_run(answer: Result<Ran, Reply>) -> String {
+    match answer {
         Ok(Ran { steps, outcome: Outcome::Number(value) }) => format!("0 0 {steps} 0 {value}\n"),
         Ok(Ran { steps, outcome: Outcome::Function }) => format!("0 0 {steps} 1 0\n"),
         Err(Reply { number, place, steps }) => format!("{number} {place} {steps} 0 0\n"),

@@ -1,7 +1,8 @@
 //! The bench trials, operations at both ends of the range, decimals, the power script of
-//! source document 001, Example 1, trials of the parts, and those of the plain run.
+//! source document 001, Example 1, trials of the parts, those of the plain run, and bands.
 
 use crate::assemble::assemble;
+use crate::band_checks::band_checks;
 use crate::benchmake::{answer, benchmake, encode_settings, FUEL};
 use crate::checker;
 use crate::decimal_trials::decimal_checks;
@@ -42,6 +43,7 @@ pub fn self_check() -> bool {
     corpus_trials(&mut tally);
     reply_trials(&mut tally);
     run_checks(&mut tally);
+    band_checks(&mut tally);
     println!("{} passed, {} failed", tally.passed, tally.failed);
     tally.failed == 0
 }
