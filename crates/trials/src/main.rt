@@ -1,7 +1,8 @@
 // Runs the packed files of data/ through the proved functions and prints each reply, behind its number in the file: scripts.bin through
 // reader and checker, makes.bin through the maker, inputs.bin through the answer of `benchmake`, runs.bin through the plain run, readings.bin through
-// the answer of `benchrun`. Each record stands behind its length in four bytes.
+// the answer of `benchrun`, bands.bin through bands, with the checker and the plain run on what they make. Each record stands behind its length in four bytes.
 mod answers;
+mod coins;
 mod makes;
 mod print;
 mod runs;
@@ -15,6 +16,7 @@ enum Kind {
     Inputs,
     Runs,
     Readings,
+    Bands,
 }
 
 fn try_record(kind: Kind, k: usize, record: &[u8]) {
@@ -24,6 +26,7 @@ fn try_record(kind: Kind, k: usize, record: &[u8]) {
         Kind::Inputs => answers::try_making(k, record),
         Kind::Runs => runs::try_run(k, record),
         Kind::Readings => answers::try_running(k, record),
+        Kind::Bands => coins::try_call(k, record),
     }
 }
 
@@ -75,4 +78,5 @@ fn main() {
     run(Kind::Inputs, b"inputs.bin");
     run(Kind::Runs, b"runs.bin");
     run(Kind::Readings, b"readings.bin");
+    run(Kind::Bands, b"bands.bin");
 }

@@ -32,7 +32,7 @@ pub(crate) fn lent(record: &[u8], at: u16, most: usize) -> usize
 }
 
 // The first n bytes of a file.
-fn print_bytes(file: &[u8], n: usize) {
+pub(crate) fn print_bytes(file: &[u8], n: usize) {
     for i in 0..n {
         print::byte(column::at8(file, i));
     }

@@ -6,8 +6,12 @@ pub(crate) fn first(k: usize) {
     io::print_decimal(STDOUT_FILENO, k as u64);
 }
 
-pub(crate) fn next(x: usize) {
+pub(crate) fn blank() {
     io::write_all(STDOUT_FILENO, b" ");
+}
+
+pub(crate) fn next(x: usize) {
+    blank();
     io::print_decimal(STDOUT_FILENO, x as u64);
 }
 
@@ -22,7 +26,7 @@ pub(crate) fn bytes(text: &[u8], n: usize) {
 pub(crate) fn signed(z: i32) {
     let mut space = [0u8; 12];
     let written = put_decimal(&mut space, z);
-    io::write_all(STDOUT_FILENO, b" ");
+    blank();
     bytes(&space, written.length);
 }
 

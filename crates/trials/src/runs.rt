@@ -14,9 +14,8 @@ use script::limits::MAX_INPUTS;
 use script::limits::MAX_NODES;
 use script::limits::MAX_TYPES;
 
-fn print_reply(k: usize, number: u8, place: usize, steps: u16, function: usize, value: i32) {
-    print::first(k);
-    print::next(number as usize);
+fn print_reply(number: u8, place: usize, steps: u16, function: usize, value: i32) {
+    print::first(number as usize);
     print::next(place);
     print::next(steps as usize);
     print::next(function);
@@ -24,16 +23,16 @@ fn print_reply(k: usize, number: u8, place: usize, steps: u16, function: usize, 
     print::end();
 }
 
-fn print_answer(k: usize, r: Reply) {
+pub(crate) fn print_told(r: Reply) {
     match r {
-        Reply::Number(z, steps) => print_reply(k, 0, 0, steps, 0, z),
-        Reply::Function(steps) => print_reply(k, 0, 0, steps, 1, 0),
-        Reply::Unfinished(f, steps) => print_reply(k, f.number, f.place, steps, 0, 0),
+        Reply::Number(z, steps) => print_reply(0, 0, steps, 0, z),
+        Reply::Function(steps) => print_reply(0, 0, steps, 1, 0),
+        Reply::Unfinished(f, steps) => print_reply(f.number, f.place, steps, 0, 0),
     }
 }
 
 // The tables start as zeros.
-fn run_file(file: &[u8], numbers: &[i32], fuel: u32, heap: &mut [u64]) -> Reply {
+pub(crate) fn run_file(file: &[u8], numbers: &[i32], fuel: u32, heap: &mut [u64]) -> Reply {
     let mut parameters = [0u16; MAX_TYPES];
     let mut results = [0u16; MAX_TYPES];
     let mut inputs = [0u16; MAX_INPUTS];
@@ -80,10 +79,14 @@ fn run_split(k: usize, record: &[u8], count: u8, numbers: &[i32], heap: &mut [u6
         if given <= numbers.len() {
             let first = 0;
             let fuel = bytes::number32(record, 0);
-            print_answer(
-                k,
-                run_file(&record[at..end], &numbers[first..given], fuel, heap),
-            );
+            print::first(k);
+            print::blank();
+            print_told(run_file(
+                &record[at..end],
+                &numbers[first..given],
+                fuel,
+                heap,
+            ));
         }
     }
 }

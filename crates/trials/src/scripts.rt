@@ -12,12 +12,12 @@ fn print_line(k: usize, number: u8, place: usize) {
 }
 
 // The checker wants neither settings nor stores nor output.
-pub(crate) fn try_script(k: usize, file: &[u8]) {
+pub(crate) fn check_file(file: &[u8]) -> Reply {
     let settings = [0i32; 1];
     let mut heap = [0u64; 1];
     let mut codes = [0u64; 1];
     let mut out = [0u8; 1];
-    let r = try_file(
+    try_file(
         Task::Check,
         file,
         &settings,
@@ -25,8 +25,11 @@ pub(crate) fn try_script(k: usize, file: &[u8]) {
         &mut heap,
         &mut codes,
         &mut out,
-    );
-    match r {
+    )
+}
+
+pub(crate) fn try_script(k: usize, file: &[u8]) {
+    match check_file(file) {
         Reply::Made(_, _) => print_line(k, 0, 0),
         Reply::Unmade(f, _) => print_line(k, f.number, f.place),
     }
