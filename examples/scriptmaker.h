@@ -26,6 +26,8 @@ enum {
     /* bytes of the longest script file */
     SCRIPTMAKER_FILE = 8 + 6 * SCRIPTMAKER_TYPES + 4 * SCRIPTMAKER_INPUTS + 13 * SCRIPTMAKER_NODES,
     SCRIPTMAKER_LISTING = 65536, /* no listing is longer */
+    SCRIPTMAKER_ROWS = 32,       /* the most rows of bands */
+    SCRIPTMAKER_BANDS = 2859,    /* bytes of the longest file that bands give: SCRIPTMAKER_BANDS_OF(SCRIPTMAKER_ROWS) */
     SCRIPTMAKER_STACK = 4 * 1024 * 1024
 };
 
@@ -54,8 +56,14 @@ enum scriptmaker_number {
     SCRIPTMAKER_CODE_TOO_LARGE = 26,   /* for a script file [0] */
     SCRIPTMAKER_CLASH = 27,            /* marks that do not fit, met by a bare run [node] */
     SCRIPTMAKER_PLAIN_CLASH = 28,      /* a number as a function or a function as a number, in a plain run [node] */
-    SCRIPTMAKER_BELOW_RANGE = 29       /* a result below -2147483648 [operation] */
+    SCRIPTMAKER_BELOW_RANGE = 29,      /* a result below -2147483648 [operation] */
+    SCRIPTMAKER_BAD_ROW = 30,          /* no rows or more than 32 [0]; low above high, or a grade outside 0 to 255 [row] */
+    SCRIPTMAKER_OVERLAP = 31,          /* a low that is not above the high of the row before [row] */
+    SCRIPTMAKER_GAP = 32               /* readings that fall in no row [row after them, or the count of rows] */
 };
+
+/* The bytes of the file that this many rows of bands give, from 1 on. */
+#define SCRIPTMAKER_BANDS_OF(rows) (91 * (size_t)(rows)-53)
 
 /* How many types, inputs and nodes a script has. */
 struct scriptmaker_counts {
@@ -140,6 +148,14 @@ struct scriptmaker_make_reply scriptmaker_bare_run(struct scriptmaker_counts cou
 struct scriptmaker_run_reply scriptmaker_run(struct scriptmaker_counts counts, SCRIPTMAKER_COLUMNS(const),
                                              const int32_t *numbers, size_t numbers_length, uint32_t fuel,
                                              uint64_t *heap, size_t heap_length);
+
+/* Bands for coin sensors: `count` rows of low, high and grade, ends inclusive, become the file of a script with one late input, which is
+ * accepted and whose plain run grades each reading by its row. Columns shorter than the count are refused before all else with 1 and
+ * place 0; then all rows are tried for 30, then for 31, then for 32, and each is told at its first row, from 0; then 21 for a short
+ * output. A refusal leaves the output as it was. */
+struct scriptmaker_write_reply scriptmaker_bands(uint16_t count, const int32_t *low, size_t low_length,
+                                                 const int32_t *high, size_t high_length, const int32_t *grade,
+                                                 size_t grade_length, uint8_t *out, size_t out_length);
 
 #ifdef __cplusplus
 }

@@ -11,6 +11,17 @@ pub const MAX_FILE: usize = 8 + 6 * MAX_TYPES + 4 * MAX_INPUTS + 13 * MAX_NODES;
 /// No listing is longer.
 pub const MAX_LISTING: usize = 65536;
 
+/// The most rows of bands.
+pub const MAX_ROWS: usize = 32;
+
+/// The bytes of the file that this many rows of bands give, from 1 on.
+pub const fn bands_length(rows: usize) -> usize {
+    91 * rows - 53
+}
+
+/// The longest of them.
+pub const MAX_BANDS: usize = bands_length(MAX_ROWS);
+
 /// The numbers of replies.
 pub mod number {
     /// The place is 0.
@@ -61,6 +72,12 @@ pub mod number {
     pub const PLAIN_CLASH: u8 = 28;
     /// A result below -2147483648, at the operation.
     pub const BELOW_RANGE: u8 = 29;
+    /// No rows or more than 32, with place 0; or a row whose low is above its high or whose grade is outside 0 to 255.
+    pub const BAD_ROW: u8 = 30;
+    /// A row whose low is not above the high of the row before.
+    pub const OVERLAP: u8 = 31;
+    /// Readings that fall in no row; the place is the row after them, or the count of rows.
+    pub const GAP: u8 = 32;
 }
 
 /// How many types, inputs and nodes a script has.
@@ -303,6 +320,17 @@ unsafe extern "C" {
         heap: *mut u64,
         _: usize,
     ) -> RunReply;
+    fn scriptmaker_bands(
+        count: u16,
+        low: *const i32,
+        _: usize,
+        high: *const i32,
+        _: usize,
+        grade: *const i32,
+        _: usize,
+        out: *mut u8,
+        _: usize,
+    ) -> WriteReply;
 }
 
 /// The type of `scriptmaker_make` and `scriptmaker_bare_run`.
@@ -581,6 +609,27 @@ impl Script {
         let outcome = if reply.function == 1 { Outcome::Function } else { Outcome::Number(reply.value) };
         answer(reply.number, reply.place, reply.steps, Ran { outcome, steps: reply.steps })
     }
+}
+
+/// Bands for coin sensors: `count` rows of low, high and grade, ends inclusive, become the file of a script with one late input,
+/// which is accepted and whose plain run grades each reading by its row. It gives the length of the file. Columns shorter than the
+/// count are refused with 1 and place 0; then all rows are tried for 30, then for 31, then for 32; then 21.
+pub fn bands(count: u16, low: &[i32], high: &[i32], grade: &[i32], out: &mut [u8]) -> Result<usize, Refusal> {
+    // SAFETY: each pointer and length come from one slice, and `out` overlaps no other.
+    let reply = unsafe {
+        scriptmaker_bands(
+            count,
+            low.as_ptr(),
+            low.len(),
+            high.as_ptr(),
+            high.len(),
+            grade.as_ptr(),
+            grade.len(),
+            out.as_mut_ptr(),
+            out.len(),
+        )
+    };
+    answer(reply.number, reply.place, 0, reply.length)
 }
 
 /// A reply of number 0 is a success.

@@ -90,3 +90,28 @@ void header_run(const struct lent *l, struct told *t) {
     *t =
         (struct told){.number = r.number, .place = r.place, .steps = r.steps, .function = r.function, .value = r.value};
 }
+
+/* Bands take no script. Both structs are those of bands.rs. */
+struct lent_rows {
+    uint16_t count;
+    const int32_t *low;
+    size_t low_length;
+    const int32_t *high;
+    size_t high_length;
+    const int32_t *grade;
+    size_t grade_length;
+    uint8_t *out;
+    size_t out_length;
+};
+
+struct told_rows {
+    uint8_t number;
+    size_t place;
+    size_t length;
+};
+
+void header_bands(const struct lent_rows *l, struct told_rows *t) {
+    struct scriptmaker_write_reply r = scriptmaker_bands(l->count, l->low, l->low_length, l->high, l->high_length,
+                                                         l->grade, l->grade_length, l->out, l->out_length);
+    *t = (struct told_rows){.number = r.number, .place = r.place, .length = r.length};
+}

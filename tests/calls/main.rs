@@ -1,8 +1,10 @@
 //! Calls every entry of the library on lent memory, by the header and by the wrapper, and compares with the second implementation:
 //! every field of the reply, and all that was lent, in every place. It prints how often each entry gave each number and each way of
-//! lending was tried; it fails where one never was.
+//! lending was tried; it fails where one never was. To COUNT calls it adds the listings of decimals, and COUNT / 6 calls for bands behind
+//! the hand-made ones.
 //!   calls SEED COUNT
 
+mod bands;
 mod cases;
 mod ways;
 
@@ -67,6 +69,7 @@ struct Tally {
     numbers: [BTreeMap<usize, usize>; ENTRIES.len()],
     oddities: BTreeMap<&'static str, usize>,
     decimals: BTreeMap<usize, usize>,
+    bands: BTreeMap<u8, usize>,
     differences: usize,
 }
 
@@ -126,6 +129,8 @@ impl Tally {
         }
         missing += [0, 21].iter().filter(|number| !self.decimals.contains_key(number)).count();
         println!("listings of decimals around the powers of ten, by their numbers: {:?}", self.decimals);
+        missing += bands::NUMBERS.iter().filter(|number| !self.bands.contains_key(number)).count();
+        println!("bands, by their numbers: {:?}", self.bands);
         let differences = self.differences;
         println!("{tried} calls, by the header and by the wrapper: {differences} differences, {missing} not tried");
         differences + missing == 0
@@ -140,6 +145,9 @@ fn main() -> ExitCode {
     };
     let mut tally = Tally::default();
     tally.try_decimals(seed);
+    let (given, differences) = bands::try_all(seed, count as usize / 6);
+    tally.bands = given;
+    tally.differences += differences;
     for index in 0..count {
         tally.try_call(seed, index);
         if tally.differences > 20 {

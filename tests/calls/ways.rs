@@ -61,7 +61,7 @@ unsafe extern "C" {
 }
 
 /// A piece of memory between two margins, which no call may touch. The first is of any length, so that bytes stand at any address.
-struct Between<T> {
+pub struct Between<T> {
     all: Vec<T>,
     first: usize,
     margin: T,
@@ -70,22 +70,22 @@ struct Between<T> {
 const LAST: usize = 8;
 
 impl<T: Copy + PartialEq> Between<T> {
-    fn new(lent: &[T], margin: T, random: &mut Random) -> Between<T> {
+    pub fn new(lent: &[T], margin: T, random: &mut Random) -> Between<T> {
         let first = random.between(1, 16);
         let all = [&vec![margin; first], lent, &[margin; LAST]].concat();
         Between { all, first, margin }
     }
 
-    fn at(&mut self) -> *mut T {
+    pub fn at(&mut self) -> *mut T {
         self.all[self.first..].as_mut_ptr()
     }
 
-    fn length(&self) -> usize {
+    pub fn length(&self) -> usize {
         self.all.len() - self.first - LAST
     }
 
     /// What was lent, if the margins are as they were.
-    fn back(self, kept: &mut bool) -> Vec<T> {
+    pub fn back(self, kept: &mut bool) -> Vec<T> {
         let end = self.all.len() - LAST;
         let mut margins = self.all[..self.first].iter().chain(&self.all[end..]);
         *kept &= margins.all(|&x| x == self.margin);

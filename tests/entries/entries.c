@@ -2,9 +2,12 @@
  *   entries FILE FUEL HEAP CODES OUT [NUMBER..]
  * HEAP, CODES and OUT are the lengths of the stores and the output; the numbers are the settings, and what the plain run takes. No
  * two columns are of one length, and no two of what is lent hold the same before. Then it reads, makes and runs with the tables,
- * the stores and the fuel that the header has for any script. */
+ * the stores and the fuel that the header has for any script. Bands take no script:
+ *   entries bands COUNT OUT LOWS HIGHS GRADES
+ * COUNT rows of three columns, each a word with commas between its numbers, and an output of length OUT. */
 #include <stdio.h>
 #include <stdlib.h>
+#include <string.h>
 
 #include "scriptmaker.h"
 
@@ -79,7 +82,25 @@ static void ran(struct scriptmaker_run_reply r) {
     PRINT("heap", stores.heap, heap);
 }
 
+/* The numbers of a word. */
+static size_t column(char *word, int32_t *numbers) {
+    size_t k = 0;
+    for (char *part = strtok(word, ","); part && k < 40; part = strtok(NULL, ",")) numbers[k++] = atoi(part);
+    return k;
+}
+
+static int bands(char **words) {
+    int32_t low[40], high[40], grade[40];
+    room = strtoul(words[1], NULL, 10);
+    if (room > sizeof out) return 2;
+    size_t lows = column(words[2], low), highs = column(words[3], high), grades = column(words[4], grade);
+    prepare();
+    wrote("bands", scriptmaker_bands((uint16_t)atoi(words[0]), low, lows, high, highs, grade, grades, out, room));
+    return fflush(stdout) ? 2 : 0;
+}
+
 int main(int count, char **words) {
+    if (count == 7 && !strcmp(words[1], "bands")) return bands(words + 2);
     FILE *f = count < 6 ? NULL : fopen(words[1], "rb");
     if (!f) return 2;
     size_t length = fread(file, 1, sizeof file, f), given = (size_t)count - 6;

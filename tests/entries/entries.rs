@@ -1,6 +1,6 @@
 //! The same as entries.c, by the wrapper.
 
-use scriptmaker::{Counts, Made, Outcome, Ran, Refusal, Script, Stores, MAX_FILE, MAX_FUEL};
+use scriptmaker::{bands, Counts, Made, Outcome, Ran, Refusal, Script, Stores, MAX_FILE, MAX_FUEL};
 use std::fmt::Display;
 
 fn print<T: PartialEq + Display>(name: &str, places: &[T]) {
@@ -82,9 +82,20 @@ fn ran(heap: &mut [u64], call: impl Fn(&mut [u64]) -> Result<Ran, Refusal>) {
     print("heap", heap);
 }
 
+/// The numbers of a word.
+fn column(word: &str) -> Vec<i32> {
+    word.split_terminator(',').map(|part| part.parse().expect("a number")).collect()
+}
+
 fn main() {
     let words: Vec<String> = std::env::args().skip(1).collect();
     let number = |word: &String| word.parse::<i64>().expect("a number");
+    if let [name, count, room, low, high, grade] = &words[..] {
+        if name == "bands" {
+            let (count, [low, high, grade]) = (number(count) as u16, [low, high, grade].map(|word| column(word)));
+            return wrote("bands", number(room) as usize, |out| bands(count, &low, &high, &grade, out));
+        }
+    }
     let file = std::fs::read(&words[0]).expect("a file");
     let fuel = number(&words[1]) as u32;
     let [heap, codes, room] = [2, 3, 4].map(|k: usize| number(&words[k]) as usize);
