@@ -43,10 +43,11 @@ writes-text :
     q ≡ writeReply (writingReply r) → WritesTextAs (holding writeReply) f text before after q
 writes-text h e = record { reply = e ∙ ap writeReply (h .reply); output = h .output }
 
+-- of the count and the columns that a caller passes
 pub makes-bands :
-    {m : ℕ} {x : Columns} {before after : List ℕ} {r : Writing} {q : WriteReply} → MakesBands m x before after r → q ≡ writeReply (writingReply r) →
-    MakesBandsAs (holding writeReply) m x before after q
-makes-bands h e = record { text = writes-text (h .text) e; low = h .low; high = h .high; grade = h .grade }
+    {m n : ℕ} {x y : Columns} {before after : List ℕ} {r : Writing} {q : WriteReply} → MakesBands m x before after r → q ≡ writeReply (writingReply r) →
+    m ≡ n → x ≡ y → MakesBandsAs (holding writeReply) n y before after q
+makes-bands h e c d = rw (← c, ← d) (record { text = writes-text (h .text) e; low = h .low; high = h .high; grade = h .grade })
 
 module _ {n : Counts} {m : Script.Counts} (same : m ≡ countsOf n) where
   pub writes :

@@ -81,12 +81,7 @@ fn run_split(k: usize, record: &[u8], count: u8, numbers: &[i32], heap: &mut [u6
             let fuel = bytes::number32(record, 0);
             print::first(k);
             print::blank();
-            print_told(run_file(
-                &record[at..end],
-                &numbers[first..given],
-                fuel,
-                heap,
-            ));
+            print_told(run_file(&record[at..end], &numbers[first..given], fuel, heap));
         }
     }
 }
