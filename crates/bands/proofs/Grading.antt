@@ -225,3 +225,10 @@ module _ (m : ℕ) (x : Columns) (low : AllFit (x .low)) (high : AllFit (x .high
           checked = λ y h. tables-checked out h;
           graded = λ y h heap enough z f k i. run-gives out h heap enough z (bandAt (rowsIn m x) k .grade) (graded-by-rules (rowsIn m x) rows-fit rows-pass z f k i);
         }
+
+-- ---- the figures for 32 rows
+
+-- 219 nodes, 2,859 bytes; 125 steps at most, and 33 deep at most
+pub for-32-rows : (bandNodes maxRows ≡ 219) × (bandLength maxRows ≡ 2859) × (bandSteps maxRows ≡ 125) × (bandDepth maxRows ≡ 33)
+unfolding maxRows bandNodes bandLength bandSteps bandDepth
+for-32-rows = (refl, refl, refl, refl)
