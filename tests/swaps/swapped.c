@@ -1,6 +1,6 @@
 /* The library with two parameters of one entry swapped: SWAP is the entry's name and the two parameters' numbers, from 0. It calls
  * the library's own functions, whose names begin with true_ here. On x86-64 Linux everything that these functions take goes by
- * words, one for the counts and for the fuel, two for a slice, in the order of the signature. */
+ * words, one for counts and for the fuel, two for a slice, in the order of the signature. */
 #include <stddef.h>
 #include <stdint.h>
 #include <stdio.h>
@@ -82,4 +82,11 @@ struct three scriptmaker_run(TAKE16, word q, word r, word s, word t, word u, wor
     word w[] = {GIVE16, q, r, s, t, u, v};
     arrange("run", "122222222212", w);
     return true_scriptmaker_run(W16, w[16], w[17], w[18], w[19], w[20], w[21]);
+}
+
+struct three true_scriptmaker_bands(word, word, word, word, word, word, word, word, word);
+struct three scriptmaker_bands(word a, word b, word c, word d, word e, word f, word g, word h, word i) {
+    word w[] = {a, b, c, d, e, f, g, h, i};
+    arrange("bands", "12222", w);
+    return true_scriptmaker_bands(w[0], w[1], w[2], w[3], w[4], w[5], w[6], w[7], w[8]);
 }

@@ -1,36 +1,34 @@
 -- The rows' script is accepted: it fits a file, and none of refusals 1 to 11 holds of it, through its bytes. Assumes nothing.
-use Prim.Native.Nat.{ℕ, zero, suc, _+_, _-_, _*_, _≤_, _<_}
-use mathlib.Core.Path.{_≡_, refl, sym, ap, _∙_}
+use Prim.Native.Nat.{ℕ, suc, _+_, _≤_}
+use mathlib.Core.Path.{_≡_, refl}
 use mathlib.Core.Bool.{true}
 use mathlib.Core.List.{List, [], _∷_}
 use mathlib.Core.Option.{none}
 use mathlib.Core.Logic.{inl}
 use native.Mathlib.Omega.{arith}
-use native.Mathlib.Nat.{le-refl}
-use lib.IntN.{ℤ, pos}
 use lib.ListN.{length, getD}
 use lib.Dec.{leb}
 use borrow.Author.Tests.{le-leb}
 use Rattle.lambdamix.specs.Arithmetic.{Fits32}
 use Rattle.lambdamix.specs.Limits.{maxInputs, maxNodes, maxHeight}
-use Rattle.lambdamix.specs.Script.{Script, inputCount, nodeCount}
+use Rattle.lambdamix.specs.Script.{inputCount}
 use Rattle.lambdamix.specs.Refusal.{firstBy, firstFailing}
 use Rattle.lambdamix.specs.Checker.{annotationRefusal}
 use Rattle.lambdamix.specs.Term.{arity}
-use Rattle.lambdamix.specs.Code.{Code, size, codeHeight, fits, written}
+use Rattle.lambdamix.specs.Code.{size, codeHeight, fits, written}
 use Rattle.lambdamix.specs.Demand.{DynamicInput}
 use Rattle.lambdamix.proofs.Checking.{checker-accepts}
 use Rattle.lambdamix.proofs.Range.{CodeFits}
 use Rattle.lambdamix.proofs.Suits.{Scoped, lit-scoped, input-scoped, form-scoped, nil-scoped, cons-scoped}
 use Rattle.lambdamix.proofs.Tests.{and-intro}
 use Rattle.lambdamix.proofs.Written.{Closed, closed-lit, closed-ref, closed-form, closed-nil, closed-cons, written-accepted}
-use Rattle.script.specs.File.{fileBytes, fileLength}
+use Rattle.script.specs.File.{fileBytes}
 use Rattle.script.specs.Refusals.{inputFits, scriptRefusal}
 use Rattle.file.specs.Encodable.{Encodable}
 use Rattle.file.specs.AcceptedFile.{AcceptedFile}
 use Rattle.file.proofs.AcceptedAgain.{through-bytes, written-fits, written-passes}
-use Rattle.bands.specs.Rows.{Band, blankBand, bandAt, maxRows}
-use Rattle.bands.specs.BandScript.{rowPart, bandCode, oneInput, bandScript, bandNodes, bandLength}
+use Rattle.bands.specs.Rows.{Band, bandAt, maxRows}
+use Rattle.bands.specs.BandScript.{rowPart, bandCode, oneInput, bandScript}
 use Rattle.bands.proofs.Numbering.{part-size}
 
 -- the numbers that the script holds have 32 bits

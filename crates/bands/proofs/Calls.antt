@@ -1,38 +1,30 @@
--- What callers rely on, by what the entries promise: a call that makes bands leaves a script that is accepted and grades each reading by its row, through reader,
--- checker and plain run; and how long an output always has room. Assumes nothing.
-use Prim.Native.Nat.{ℕ, _≤_, _<_}
+-- What callers rely on, by what the entries promise: a call that makes bands leaves a script that is accepted and grades each reading by its row,
+-- through reader, checker and plain run; and how long an output always has room. Assumes nothing.
+use Prim.Native.Nat.{ℕ, _≤_}
 use mathlib.Core.Path.{_≡_, refl, sym, ap, subst⁻¹, _∙_}
 use mathlib.Core.Bool.{Bool, true, false}
-use mathlib.Core.List.{List, [], _∷_}
+use mathlib.Core.List.{List}
 use mathlib.Core.Option.{Option, none, some}
-use mathlib.Core.Logic.{_↔_, ⊎-elim}
+use mathlib.Core.Logic.{⊎-elim}
 use native.Mathlib.Omega.{arith}
-use lib.IntN.{ℤ}
 use lib.ListN.{length}
-use lib.Dec.{leb, eqb}
+use lib.Dec.{eqb}
 use borrow.Author.Tests.{le-leb, eqb-false}
-use Rattle.lambdamix.specs.Arithmetic.{Fits32}
-use Rattle.lambdamix.specs.Limits.{maxFuel}
-use Rattle.lambdamix.specs.PlainRun.{aNumber}
-use Rattle.lambdamix.specs.Refusal.{Refusal, orElse, refusedUnless, firstFailing, refusedAt}
+use Rattle.lambdamix.specs.Refusal.{Refusal, orElse, refusedUnless, refusedAt}
 use Rattle.script.specs.declared.Counts.{Counts}
-use Rattle.script.specs.declared.Verdict.{Verdict}
 use Rattle.script.specs.declared.Verdict.the-variants as Verdict
 use Rattle.script.specs.declared.Reading.{Reading}
 use Rattle.script.specs.declared.Writing.{Writing}
 use Rattle.script.specs.Tables.{Tables, longEnough, filled, readRefusal, readTables, roomRefusal, writtenOutput}
 use Rattle.script.specs.File.{scriptIn, headTypes, headInputs, headNodes}
-use Rattle.script.specs.Replies.{Reply, headCounts, replying, Form, writingReply, verdictReply, Reads, Tells}
+use Rattle.script.specs.Replies.{Reply, headCounts, replying, Form, writingReply, Reads}
 use Rattle.script.proofs.RefusalLaws.{neither, either-some, node-number}
 use Rattle.reading.proofs.FillLaws.{file-held, filled-long}
-use Rattle.annotation.specs.Checks.{checkRefusal}
-use Rattle.cells.specs.Room.{heapSuffices}
 use Rattle.plainrun.specs.declared.Reply as Ran
-use Rattle.plainrun.specs.Running.{ran, replied, Runs}
-use Rattle.bands.specs.Rows.{bandAt, maxRows, countRight, rowsRefusal, FallsIn}
+use Rattle.bands.specs.Rows.{maxRows, rowsRefusal}
 use Rattle.bands.specs.BandScript.{bandNodes, bandLength}
-use Rattle.bands.specs.Calls.{Columns, rowsIn, columnsLong, columnsRefusal, bandBytes, bandsRefusal, MakesBandsAs, MakesBands}
-use Rattle.bands.specs.Grading.{bandFile, bandSteps, HoldFile, GradesByRows, ServesCalls}
+use Rattle.bands.specs.Calls.{Columns, rowsIn, columnsRefusal, bandBytes, bandsRefusal, MakesBandsAs, MakesBands}
+use Rattle.bands.specs.Grading.{bandFile, HoldFile, GradesByRows, ServesCalls}
 use Rattle.bands.proofs.RowTests.{rows-length}
 use Rattle.bands.proofs.Writing.{band-length, row-count}
 use Rattle.bands.proofs.Grading.{rows-grade}
@@ -59,7 +51,10 @@ refusal-told m x out e =
     ⊎-elim (λ b. test-told _ 1 0 refl b)
     (λ b.
     ⊎-elim (λ c. test-told _ 30 0 refl c)
-    (λ c. ⊎-elim (λ d. search-told 30 _ refl d) (λ d. ⊎-elim (λ g. search-told 31 _ refl g) (λ g. search-told 32 _ refl g) (either-some _ _ d)) (either-some _ _ c))
+    (λ c.
+    ⊎-elim (λ d. search-told 30 _ refl d)
+    (λ d. ⊎-elim (λ g. search-told 31 _ refl g) (λ g. search-told 32 _ refl g) (either-some _ _ d))
+    (either-some _ _ c))
     (either-some _ _ b))
     (either-some _ _ a))
     (λ a. test-told _ 21 0 refl a)
@@ -130,8 +125,8 @@ file-read m x left y g long =
     let n : headNodes bs ≡ bandNodes m = ap (λ (n : Counts). n .nodes) (g .counts) in
     rw (g .accepted .read, t, i, n, long)
 
--- Theorem: bands that a call made serve their user: the file that it left is read and accepted, and its plain run with fuel 16,000 and a store of 16,016 places or more
--- grades each 32-bit reading by its row.
+-- Theorem: bands that a call made serve their user: the file that it left is read and accepted, and its plain run with fuel 16,000 and a store of
+-- 16,016 places or more grades each 32-bit reading by its row.
 pub bands-serve :
     (m : ℕ) (x : Columns) (before after : List ℕ) (r : Writing) → MakesBands m x before after r → writingReply r .number ≡ 0 → (y z : Tables) →
     longEnough 0 1 (bandNodes m) y ≡ true → (q : Reading) → Reads (bandFile m after) y z q → ServesCalls m x after y z

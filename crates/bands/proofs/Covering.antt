@@ -2,18 +2,18 @@
 -- (Spans.antt). Assumes nothing.
 use Prim.Native.Nat.{ℕ, zero, suc, _+_, _-_, _≤_, _<_}
 use mathlib.Core.Path.{_≡_, refl, sym, ap, subst, _∙_}
-use mathlib.Core.Bool.{Bool, true, false}
+use mathlib.Core.Bool.{true, false}
 use mathlib.Core.List.{List}
 use mathlib.Core.Option.{none}
 use mathlib.Core.Logic.{_↔_, ⊎-elim}
 use native.Mathlib.Omega.{arith}
 use lib.IntN.{ℤ, pos, negsuc, sucℤ}
 use lib.ListN.{length}
-use lib.Signed.{ltZ, leZ, _≤ℤ_, _<ℤ_, leZ-yes}
+use lib.Signed.{ltZ, leZ, leZ-yes}
 use lib.Dec.{T, leb, ltb}
 use borrow.Author.Tests.{leb-true, le-leb, ltb-true, ltb-false, lt-ltb, le-ltb}
 use Rattle.lambdamix.specs.Arithmetic.{lowest, highest, Fits32}
-use Rattle.lambdamix.specs.Refusal.{orElse, refusedUnless, firstFailing, refusedAt}
+use Rattle.lambdamix.specs.Refusal.{orElse, refusedUnless, refusedAt}
 use Rattle.lambdamix.proofs.Tests.{holds-or-fails, and-both, and-intro}
 use Rattle.script.proofs.RefusalLaws.{neither, not-refused, no-node, passes, all-pass}
 use Rattle.bands.specs.Rows.{Band, bandAt, maxRows, maxGrade, countRight, bandRight, aboveBefore, leftAt, startBy, startAt, joinsBefore, rowsRefusal}
@@ -90,7 +90,8 @@ module _ (rows : List Band) (fit : (k : ℕ) → k < length rows → BandFits (b
   apart-by : ((k : ℕ) → k < length rows → aboveBefore rows k ≡ true) → (k : ℕ) → suc k < length rows → last k < first (suc k)
   unfolding aboveBefore
   apart-by h k l =
-      ltb-true (last k) (first (suc k)) (sym (lt-place (bandAt rows k .high) (bandAt rows (suc k) .low) (high-near k (omega arith)) (low-near (suc k) l)) ∙ h (suc k) l)
+      let test = lt-place (bandAt rows k .high) (bandAt rows (suc k) .low) (high-near k (omega arith)) (low-near (suc k) l) in
+      ltb-true (last k) (first (suc k)) (sym test ∙ h (suc k) l)
 
   begins-by : 1 ≤ length rows → joinsBefore rows 0 ≡ true → first 0 ≤ 1
   unfolding joinsBefore startAt startBy leftAt
@@ -104,8 +105,8 @@ module _ (rows : List Band) (fit : (k : ℕ) → k < length rows → BandFits (b
       let e = rw (lt-ltb (suc k) (length rows) l) at h in
       let o : k < length rows = omega arith in
       let n = next-near (bandAt rows k .high) (fit k o .high) in
-      rw (← next-place (bandAt rows k .high) (high-near k o))
-      (leb-true (first (suc k)) (place (sucℤ (bandAt rows k .high))) (sym (le-place (bandAt rows (suc k) .low) (sucℤ (bandAt rows k .high)) (low-near (suc k) l) n) ∙ e))
+      let test = le-place (bandAt rows (suc k) .low) (sucℤ (bandAt rows k .high)) (low-near (suc k) l) n in
+      rw (← next-place (bandAt rows k .high) (high-near k o)) (leb-true (first (suc k)) (place (sucℤ (bandAt rows k .high))) (sym test ∙ e))
 
   ends-by : (k : ℕ) → suc k ≡ length rows → joinsBefore rows (suc k) ≡ true → 4294967296 ≤ last k
   unfolding joinsBefore startAt startBy leftAt
@@ -113,7 +114,8 @@ module _ (rows : List Band) (fit : (k : ℕ) → k < length rows → BandFits (b
       let o : k < length rows = omega arith in
       let t = rw (le-ltb (suc k) (length rows) (omega arith)) at h in
       let n = next-near (bandAt rows k .high) (fit k o .high) in
-      let p = leb-true (place (sucℤ highest)) (place (sucℤ (bandAt rows k .high))) (sym (le-place (sucℤ highest) (sucℤ (bandAt rows k .high)) (next-near highest (omega arith)) n) ∙ t) in
+      let test = le-place (sucℤ highest) (sucℤ (bandAt rows k .high)) (next-near highest (omega arith)) n in
+      let p = leb-true (place (sucℤ highest)) (place (sucℤ (bandAt rows k .high))) (sym test ∙ t) in
       let q = next-place (bandAt rows k .high) (high-near k o) in
       let r = next-place highest (near highest (omega arith)) in
       omega (arith, p, q, r, highest-place)
@@ -165,7 +167,8 @@ module _ (rows : List Band) (fit : (k : ℕ) → k < length rows → BandFits (b
         each = good;
         rising =
             λ k l.
-            places-lt (bandAt rows k .low) (bandAt rows (suc k) .low) (low-near k (omega arith)) (low-near (suc k) l) (omega (arith, ordered k (omega arith), apart k l));
+            let o : k < length rows = omega arith in
+            places-lt (bandAt rows k .low) (bandAt rows (suc k) .low) (low-near k o) (low-near (suc k) l) (omega (arith, ordered k o, apart k l));
         covered = λ z f. one z f ordered apart;
       }
     where
@@ -227,7 +230,9 @@ module _ (rows : List Band) (fit : (k : ℕ) → k < length rows → BandFits (b
         let h = begins-then first last (length rows) (ordered-by (g .each)) rises 1 4294967296 at-least at-most found alone a (omega arith) in
         rw (lt-ltb 0 (length rows) a)
         (le-place (bandAt rows 0 .low) lowest (low-near 0 a) (near lowest (omega arith)) ∙ le-leb (first 0) (place lowest) (rw lowest-place h))
-    good-joins (suc k) l = ⊎-elim (λ t. inner (ltb-true (suc k) (length rows) t)) (λ t. outer (ltb-false (suc k) (length rows) t)) (holds-or-fails (ltb (suc k) (length rows)))
+    good-joins (suc k) l =
+        ⊎-elim (λ t. inner (ltb-true (suc k) (length rows) t)) (λ t. outer (ltb-false (suc k) (length rows) t))
+        (holds-or-fails (ltb (suc k) (length rows)))
       where
         o : k < length rows
         o = omega arith

@@ -1,19 +1,20 @@
--- The plain run of the rows' script grades each reading by its row, within 4 m - 3 steps and m + 1 deep; and what a call that made bands leaves. Assumes nothing.
+-- The plain run of the rows' script grades each reading by its row, within 4 m - 3 steps and m + 1 deep; and what a call that made bands leaves.
+-- Assumes nothing.
 use Prim.Native.Nat.{ℕ, zero, suc, _+_, _-_, _*_, _≤_, _<_}
 use mathlib.Core.Path.{_≡_, refl, sym, ap, subst, subst⁻¹, _∙_}
 use mathlib.Core.Bool.{Bool, true, false}
 use mathlib.Core.List.{List, [], _∷_}
-use mathlib.Core.Option.{none, some}
+use mathlib.Core.Option.{none}
 use native.Mathlib.Omega.{arith}
-use lib.IntN.{ℤ, pos}
-use lib.ListN.{length, getD, drop}
+use lib.IntN.{ℤ}
+use lib.ListN.{length, drop}
 use lib.Seq.{take-at}
 use lib.Signed.{ltZ}
 use Rattle.lambdamix.specs.declared.Operator.the-variants.{Less}
 use Rattle.lambdamix.specs.Arithmetic.{Fits32, exactResult, truth, Gives}
 use Rattle.lambdamix.specs.Limits.{maxDepth, maxFuel}
-use Rattle.lambdamix.specs.Script.{Script, inputCount, root}
-use Rattle.lambdamix.specs.Term.{Term, Terms, nilT, consT, childAt, tree, arity}
+use Rattle.lambdamix.specs.Script.{Script, inputCount}
+use Rattle.lambdamix.specs.Term.{Term, childAt, arity}
 use Rattle.lambdamix.specs.Erasure.{erase, staticForm}
 use Rattle.lambdamix.specs.Value.{Value, number, Environment, empty, bind, valueAt, valueAtBy}
 use Rattle.lambdamix.specs.Evaluation.{Job, visit, branch, branchBy}
@@ -28,7 +29,7 @@ use Rattle.lambdamix.proofs.WrittenTree.{writtenTerm, written-tree, WellFormed,
 use Rattle.script.specs.Widths.{AllFit}
 use Rattle.script.specs.File.{scriptIn, fileBytes, typeFrom, inputFrom, nodeFrom, typeOffset, inputOffset, nodeOffset, headTypes, headInputs, headNodes}
 use Rattle.script.specs.Refusals.{scriptRefusal}
-use Rattle.script.specs.Tables.{Tables, tablesScript, longEnough, tablesRefusal, over}
+use Rattle.script.specs.Tables.{Tables, tablesScript, tablesRefusal, over}
 use Rattle.file.specs.Encodable.{Encodable}
 use Rattle.file.specs.AcceptedFile.{AcceptedFile}
 use Rattle.annotation.specs.Checks.{checkRefusal}
@@ -140,9 +141,6 @@ module _ (m : ℕ) (x : Columns) (low : AllFit (x .low)) (high : AllFit (x .high
       subst⁻¹ BandFits (band-at m x k (omega (arith, rows-length m x))) (record { low = low .fits k; high = high .fits k; grade = grade .fits k })
 
   module _ (c : columnsRefusal m x ≡ none) where
-    abbrev rows : List Band
-    rows = rowsIn m x
-
     rows-pass : rowsRefusal (rowsIn m x) ≡ none
     unfolding columnsRefusal
     rows-pass = neither _ _ c .1
@@ -208,9 +206,10 @@ module _ (m : ℕ) (x : Columns) (low : AllFit (x .low)) (high : AllFit (x .high
         run-gives : RunGives m y heap z g
         unfolding running refusalBefore ranUnless afterPlain plainRefusal tablesRefusal orElse refusedUnless bandScript written inputCount maxFuel
         run-gives =
+            let runs = evaluated-by-rules (bandScript (rowsIn m x)) (z ∷ []) maxFuel (aNumber g) (graded .steps) .1 evaluates in
             record {
               steps = graded .steps;
-              gives = rw (h .long, holds, passes .1, enough, evaluated-by-rules (bandScript (rowsIn m x)) (z ∷ []) maxFuel (aNumber g) (graded .steps) .1 evaluates);
+              gives = rw (h .long, holds, passes .1, enough, runs);
               few = rw (← rows-length m x) (graded .few);
             }
 
@@ -223,7 +222,9 @@ module _ (m : ℕ) (x : Columns) (low : AllFit (x .low)) (high : AllFit (x .high
           counts = file-counts out;
           accepted = subst⁻¹ AcceptedFile (file-left out) (script-accepted (rowsIn m x) some-rows few-rows (columns-fit m x low grade));
           checked = λ y h. tables-checked out h;
-          graded = λ y h heap enough z f k i. run-gives out h heap enough z (bandAt (rowsIn m x) k .grade) (graded-by-rules (rowsIn m x) rows-fit rows-pass z f k i);
+          graded =
+              λ y h heap enough z f k i.
+              run-gives out h heap enough z (bandAt (rowsIn m x) k .grade) (graded-by-rules (rowsIn m x) rows-fit rows-pass z f k i);
         }
 
 -- ---- the figures for 32 rows

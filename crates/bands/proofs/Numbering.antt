@@ -10,13 +10,11 @@ use borrow.Author.Tests.{ltb-true, ltb-false}
 use lib.IntN.{ℤ, pos}
 use lib.ListN.{length, getD, length-append, List·getD-append}
 use lib.Seq.{getD-append-add}
-use Rattle.lambdamix.specs.declared.Operator.the-variants.{Less}
-use Rattle.lambdamix.specs.Script.{Script, Node, blankNode, nodeAt}
-use Rattle.lambdamix.specs.Term.{choosing, operating}
-use Rattle.lambdamix.specs.Code.{Code, lit, ref, form, nilC, consC, node, formNode, operatorNumber, size, lastNode, lastNodes, nodesFrom, written}
+use Rattle.lambdamix.specs.Script.{Node, blankNode, nodeAt}
+use Rattle.lambdamix.specs.Code.{node, formNode, operatorNumber, size, lastNode, lastNodes, nodesFrom, written}
 use Rattle.lambdamix.proofs.Tests.{holds-or-fails}
 use Rattle.lambdamix.proofs.WrittenTree.{nodes-size, top-last}
-use Rattle.bands.specs.Rows.{Band, blankBand, bandAt}
+use Rattle.bands.specs.Rows.{Band, bandAt}
 use Rattle.bands.specs.BandScript.{rowPart, bandCode, bandScript, bandNodes}
 use Rattle.bands.specs.Calls.{Columns, rowIn, rowsIn}
 use Rattle.bands.specs.Steps.{partNode, PartAt}
@@ -211,4 +209,5 @@ lift-part (suc (suc (suc (suc (suc p))))) i l g a b c e h = h
 
 -- a lift has a child
 pub lift-deep : {p i : ℕ} → PartAt p i → ¬ (p ≡ 0) → ¬ (p ≡ 1) → ¬ (p ≡ 4) → 1 ≤ i
-lift-deep {p} {i} h a b e = ⊎-elim (λ t. omega (arith, h .before (ltb-true p 4 t), a)) (λ t. omega (arith, h .last, ltb-false p 4 t, e)) (holds-or-fails (ltb p 4))
+lift-deep {p} {i} h a b e =
+    ⊎-elim (λ t. omega (arith, h .before (ltb-true p 4 t), a)) (λ t. omega (arith, h .last, ltb-false p 4 t, e)) (holds-or-fails (ltb p 4))

@@ -1,13 +1,9 @@
 -- Refusals of rows in their order, by the verdicts of the searches. Assumes nothing.
 use Prim.Native.Nat.{ℕ, suc, _≤_, _<_}
-use mathlib.Core.Path.{_≡_, refl, sym, ap, _∙_}
-use mathlib.Core.Bool.{Bool, true, false, _&&_}
-use mathlib.Core.List.{List}
-use mathlib.Core.Option.{Option, none, some}
-use native.Mathlib.Omega.{arith}
-use lib.IntN.{ℤ}
+use mathlib.Core.Path.{_≡_, sym, _∙_}
+use mathlib.Core.Bool.{true}
+use mathlib.Core.Option.{Option, some}
 use lib.ListN.{length}
-use lib.Dec.{leb}
 use borrow.Author.Tests.{le-leb, lt-leb}
 use Rattle.lambdamix.specs.Refusal as Lambdamix
 use Rattle.lambdamix.specs.Refusal.{orElse, refusedUnless, firstFailing, refusedAt}
@@ -17,7 +13,7 @@ use Rattle.script.specs.declared.Verdict.the-variants as Verdict
 use Rattle.script.specs.Verdicts.{refusalOf}
 use Rattle.script.proofs.RefusalLaws.{pass-over}
 use Rattle.script.proofs.Verdicts.{refused-tells-first, passed-tells-next}
-use Rattle.bands.specs.Rows.{Band, maxRows, bandAt, bandRight, aboveBefore, joinsBefore, countRight, rowsRefusal}
+use Rattle.bands.specs.Rows.{maxRows, bandAt, bandRight, aboveBefore, joinsBefore, countRight, rowsRefusal}
 use Rattle.bands.specs.Calls.{Columns, rowsIn, columnsLong, columnsRefusal}
 use Rattle.bands.proofs.RowTests.{rows-length}
 

@@ -1,8 +1,7 @@
--- Spans of places, each from its first to its last: spans that follow one another without a gap from lo to hi, and what it is that each place of lo to hi lies in
--- exactly one. Assumes nothing.
+-- Spans of places, each from its first to its last: spans that follow one another without a gap from lo to hi are those of which each place from lo
+-- to hi lies in exactly one. Assumes nothing.
 use Prim.Native.Nat.{ℕ, zero, suc, _+_, _≤_, _<_}
-use mathlib.Core.Path.{_≡_, refl, sym}
-use mathlib.Core.Bool.{Bool, true, false}
+use mathlib.Core.Path.{_≡_, refl}
 use mathlib.Core.Logic.{_⊎_, inl, inr, ⊎-elim}
 use native.Mathlib.Omega.{arith}
 use lib.Dec.{leb, ltb}
@@ -42,30 +41,35 @@ module _ (first last : ℕ → ℕ) (m : ℕ) where
 
   -- ---- and without gaps each place lies in one
 
-  module _ (lo hi : ℕ) (begins : first 0 ≤ lo) (joined : (k : ℕ) → suc k < m → first (suc k) ≤ last k + 1) (ends : (k : ℕ) → suc k ≡ m → hi ≤ last k) where
-    -- z is past all spans before k
-    abbrev Past : ℕ → ℕ → Type 0
-    Past z k = (j : ℕ) → suc j ≡ k → last j < z
+  module _
+      (lo hi : ℕ)
+      (begins : first 0 ≤ lo)
+      (joined : (k : ℕ) → suc k < m → first (suc k) ≤ last k + 1)
+      (ends : (k : ℕ) → suc k ≡ m → hi ≤ last k)
+    where
+      -- z is past all spans before k
+      abbrev Past : ℕ → ℕ → Type 0
+      Past z k = (j : ℕ) → suc j ≡ k → last j < z
 
-    reaches : (z k : ℕ) → lo ≤ z → k < m → Past z k → first k ≤ z
-    reaches z zero h l p = omega arith
-    reaches z (suc k) h l p = omega (arith, joined k l, p k refl)
+      reaches : (z k : ℕ) → lo ≤ z → k < m → Past z k → first k ≤ z
+      reaches z zero h l p = omega arith
+      reaches z (suc k) h l p = omega (arith, joined k l, p k refl)
 
-    found-or-past : (z k : ℕ) → lo ≤ z → k ≤ m → ((i : ℕ) × In z i) ⊎ Past z k
-    found-or-past z zero h l = inr (λ j e. let c : ⊥ = omega arith in absurd c)
-    found-or-past z (suc k) h l = ⊎-elim inl (λ p. by p) (found-or-past z k h (omega arith))
-      where
-        by : Past z k → ((i : ℕ) × In z i) ⊎ Past z (suc k)
-        by p =
-            ⊎-elim (λ t. inl (k, record { row = omega arith; from = reaches z k h (omega arith) p; to = leb-true z (last k) t }))
-            (λ t. inr (λ j e. let q : j ≡ k = omega arith in rw q (leb-false z (last k) t))) (holds-or-fails (leb z (last k)))
+      found-or-past : (z k : ℕ) → lo ≤ z → k ≤ m → ((i : ℕ) × In z i) ⊎ Past z k
+      found-or-past z zero h l = inr (λ j e. let c : ⊥ = omega arith in absurd c)
+      found-or-past z (suc k) h l = ⊎-elim inl (λ p. by p) (found-or-past z k h (omega arith))
+        where
+          by : Past z k → ((i : ℕ) × In z i) ⊎ Past z (suc k)
+          by p =
+              ⊎-elim (λ t. inl (k, record { row = omega arith; from = reaches z k h (omega arith) p; to = leb-true z (last k) t }))
+              (λ t. inr (λ j e. let q : j ≡ k = omega arith in rw q (leb-false z (last k) t))) (holds-or-fails (leb z (last k)))
 
-    pub each-found : 1 ≤ m → (z : ℕ) → lo ≤ z → z ≤ hi → (i : ℕ) × In z i
-    each-found a z h l = ⊎-elim (λ f. f) (λ p. past-all m refl p) (found-or-past z m h (omega arith))
-      where
-        past-all : (k : ℕ) → k ≡ m → Past z k → (i : ℕ) × In z i
-        past-all zero e p = let c : ⊥ = omega arith in absurd c
-        past-all (suc k) e p = let c : ⊥ = omega (arith, ends k e, p k refl) in absurd c
+      pub each-found : 1 ≤ m → (z : ℕ) → lo ≤ z → z ≤ hi → (i : ℕ) × In z i
+      each-found a z h l = ⊎-elim (λ f. f) (λ p. past-all m refl p) (found-or-past z m h (omega arith))
+        where
+          past-all : (k : ℕ) → k ≡ m → Past z k → (i : ℕ) × In z i
+          past-all zero e p = let c : ⊥ = omega arith in absurd c
+          past-all (suc k) e p = let c : ⊥ = omega (arith, ends k e, p k refl) in absurd c
 
   -- ---- the other way: rising spans of which each place lies in exactly one
 
@@ -90,7 +94,9 @@ module _ (first last : ℕ → ℕ) (m : ℕ) where
           same d = let e : i ≡ suc j = omega arith in rw e (omega arith)
 
       pub apart-then : Apart
-      apart-then k l = ⊎-elim (λ t. ltb-true (last k) (first (suc k)) t) (λ t. absurd (both (ltb-false (last k) (first (suc k)) t))) (holds-or-fails (ltb (last k) (first (suc k))))
+      apart-then k l =
+          ⊎-elim (λ t. ltb-true (last k) (first (suc k)) t) (λ t. absurd (both (ltb-false (last k) (first (suc k)) t)))
+          (holds-or-fails (ltb (last k) (first (suc k))))
         where
           both : first (suc k) ≤ last k → ⊥
           both h =

@@ -1,26 +1,26 @@
 -- The rows' script is written by the writer's entry: node columns that hold its nodes are tables that hold it, and it passes; and the length of its file.
 -- Assumes nothing.
-use Prim.Native.Nat.{ℕ, _+_, _-_, _*_, _≤_, _<_}
-use mathlib.Core.Path.{_≡_, refl, sym, ap, subst, subst⁻¹, _∙_}
-use mathlib.Core.Bool.{Bool, true}
+use Prim.Native.Nat.{ℕ, _-_, _≤_}
+use mathlib.Core.Path.{_≡_, sym, ap, subst, subst⁻¹, _∙_}
+use mathlib.Core.Bool.{true}
 use mathlib.Core.List.{List, [], _∷_}
-use mathlib.Core.Option.{Option, none}
+use mathlib.Core.Option.{none}
 use native.Mathlib.Omega.{arith}
 use lib.IntN.{ℤ}
-use lib.ListN.{length, getD}
+use lib.ListN.{length}
 use lib.Dec.{leb}
 use borrow.Author.Tests.{le-leb, leb-true}
 use Rattle.lambdamix.specs.Arithmetic.{Fits32}
-use Rattle.lambdamix.specs.Script.{Script, Node, blankNode, nodeAt}
-use Rattle.lambdamix.specs.Refusal.{Refusal, orElse, refusedUnless}
-use Rattle.lambdamix.specs.Code.{nodesFrom, written}
+use Rattle.lambdamix.specs.Script.{blankNode, nodeAt}
+use Rattle.lambdamix.specs.Refusal.{orElse, refusedUnless}
+use Rattle.lambdamix.specs.Code.{written}
 use Rattle.lambdamix.proofs.WrittenTree.{nodes-size}
 use Rattle.lambdamix.proofs.Tests.{and-intro, and-both}
 use Rattle.script.specs.declared.Counts.{Counts}
 use Rattle.script.specs.declared.Writing.{Writing}
 use Rattle.script.specs.File.{numbered, fileBytes, fileLength, nodeOffset}
 use Rattle.script.specs.Columns.{enough}
-use Rattle.script.specs.Tables.{Tables, tablesOf, rowType, rowInput, rowNode, tablesScript, longEnough, tablesRefusal, roomRefusal, writeRefusal}
+use Rattle.script.specs.Tables.{Tables, tablesOf, rowInput, rowNode, tablesScript, longEnough, tablesRefusal, roomRefusal, writeRefusal}
 use Rattle.script.specs.Verdicts.{Fitted}
 use Rattle.script.specs.Replies.{Writes}
 use Rattle.script.specs.Widths.{AllFit}

@@ -68,8 +68,8 @@ pub record GradesByRows (m : ℕ) (x : Columns) (left : List ℕ) : Type 0 where
       (y : Tables) → HoldFile m left y → (heap : List ℕ) → heapSuffices maxFuel (length heap) ≡ true → (z : ℤ) → Fits32 z → (k : ℕ) →
       FallsIn z (rowsIn m x) k → RunGives m y heap z (bandAt (rowsIn m x) k .grade)
 
--- The same as the entries tell it, one call after the other: the reader's call on the file in the output, with tables that are long enough, then the checker's and
--- the plain run's calls on the tables that it filled.
+-- The same as the entries tell it, one call after the other: the reader's call on the file in the output, with tables that are long enough, then the
+-- checker's and the plain run's calls on the tables that it filled.
 pub record ServesCalls (m : ℕ) (x : Columns) (left : List ℕ) (y z : Tables) : Type 0 where
   pub read : (q : Reading) → Reads (bandFile m left) y z q → readingReply q .number ≡ 0
   pub checked : (v : Verdict) → Tells (checkRefusal 0 1 (bandNodes m) z) v → verdictReply v .number ≡ 0

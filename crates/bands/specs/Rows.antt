@@ -1,6 +1,6 @@
--- Rows of bands for a coin sensor: paper 02, 2.4: "Testers keep their grades as rows: low, high, grade (0 to 255), ends inclusive." What is refused of rows, then
--- what the paper wants of them: "It takes 1 to 32 rows, rising, and checks that every 32-bit reading falls in exactly one." That the two agree is
--- `rows-accepted` of proofs/Covering.antt. Assumes nothing.
+-- Rows of bands for a coin sensor: paper 02, 2.4: "Testers keep their grades as rows: low, high, grade (0 to 255), ends inclusive." What is refused of
+-- rows, then what the paper wants of them: "It takes 1 to 32 rows, rising, and checks that every 32-bit reading falls in exactly one." That the two agree
+-- is `rows-accepted` of proofs/Covering.antt. Assumes nothing.
 use Prim.Native.Nat.{ℕ, zero, suc, _≤_, _<_}
 use mathlib.Core.Path.{_≡_}
 use mathlib.Core.Bool.{Bool, true, false, _&&_}

@@ -32,7 +32,7 @@ const USAGE: &str = "commands:
   pack-bands FILE SEED COUNT
   packed read|check|benchmake|make|run|benchrun|bands FILE
   entries FILE FUEL HEAP CODES OUT [NUMBER..]
-  bands COUNT OUT LOWS HIGHS GRADES
+  entries bands COUNT OUT LOWS HIGHS GRADES
   differ benchmake|benchrun|bands PROGRAM SEED COUNT [FILE]
 ";
 
@@ -74,11 +74,13 @@ fn run(words: &[&str]) -> Result<bool, String> {
         ["pack-whole", file, seed, count, most] => {
             pack_whole(file, number(seed)?, number(count)?, number(most)? as usize)
         }
+        ["entries", "bands", count, out, lows, highs, grades] => {
+            call_bands(count, out, [lows, highs, grades])
+        }
         ["entries", file, fuel, heap, codes, out, ref numbers @ ..] => {
             let lengths = [number(heap)?, number(codes)?, number(out)?].map(|n| n as usize);
             call_entries(file, number(fuel)? as u32, lengths, numbers)
         }
-        ["bands", count, out, lows, highs, grades] => call_bands(count, out, [lows, highs, grades]),
         ["differ", name, path, seed, count, ref file @ ..] if file.len() < 2 => {
             let keep = file.first().map(Path::new);
             differ_from(name, path, number(seed)?, number(count)?, keep)

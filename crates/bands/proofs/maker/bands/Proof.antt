@@ -19,11 +19,18 @@ write-script-requires c κs =
 returns : tie.Need-returns
 unfolding bandsRefusal
 returns c =
+    let at-columns-refusal = c .before .before .before .before .before .before .columns-refusal in
+    let at-enum-told = c .before .before .before .before .enum-told in
+    let at-write-script = c .before .before .write-script in
+    let at-numbers-fit = c .before .before .before .before .before .before .before .before .before .numbers-fit in
+    let at-numbers-fit2 = c .before .before .before .before .before .before .before .before .numbers-fit2 in
+    let at-numbers-fit3 = c .before .before .before .before .before .before .before .numbers-fit3 in
     record {
-      text = writes-passed (c .before .before .before .before .before .before .columns-refusal .ensures) (c .before .before .before .before .enum-told .given .1) (c .before .before .write-script .ensures);
-      low = c .before .before .before .before .before .before .before .before .before .numbers-fit .ensures;
-      high = c .before .before .before .before .before .before .before .before .numbers-fit2 .ensures;
-      grade = c .before .before .before .before .before .before .before .numbers-fit3 .ensures;
+      text = writes-passed (at-columns-refusal .ensures) (at-enum-told .given .1)
+          (at-write-script .ensures);
+      low = at-numbers-fit .ensures;
+      high = at-numbers-fit2 .ensures;
+      grade = at-numbers-fit3 .ensures;
     }
 
 returns-2 : tie.Need-returns-2

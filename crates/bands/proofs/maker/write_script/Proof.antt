@@ -1,6 +1,6 @@
 -- `bands::maker::write_script` meets its contract: by the writer's entry. Assumes nothing.
 use borrow.Author.Needs.{needs}
-use mathlib.Core.Path.{refl, sym}
+use mathlib.Core.Path.{refl}
 use native.Mathlib.Omega.{arith}
 use Rattle.bands.specs.Rows.{maxRows}
 use Rattle.bands.specs.BandScript.{bandNodes}
@@ -9,7 +9,9 @@ use Rattle.bands.proofs.maker.write_script.Statement.{statement}
 use Rattle.bands.proofs.maker.write_script.Tie as tie
 
 fill-nodes-requires : tie.Need-fill-nodes-requires
-fill-nodes-requires c κs = (c .before .before .before .before .before .before .pre .count, long-by (c .before .before .before .before .before .before .pre .count) refl refl refl refl refl)
+fill-nodes-requires c κs =
+    let at-pre = c .before .before .before .before .before .before .pre in
+    (at-pre .count, long-by (at-pre .count) refl refl refl refl refl)
 
 mul-t24 : tie.Need-mul-t24
 unfolding maxRows
@@ -21,10 +23,15 @@ sub-t25 c = omega (arith, c .before .before .before .before .before .before .bef
 returns : tie.Need-returns
 unfolding bandNodes
 returns c =
-    let k = c .before .before .before .before .before .before .before .before .before .before .before .before .before .before .before .before .before .fill-nodes .kept .1 .1 .1 .1 in
-    script-written _ _ (c .before .before .before .before .before .before .before .before .before .before .before .before .before .before .before .before .before .before .before .before .before .before .before .before .pre) (c .before .before .before .before .before .before .before .before .before .before .before .before .before .before .before .before .before .fill-nodes .ensures)
-    (long-by (c .before .before .before .before .before .before .before .before .before .before .before .before .before .before .before .before .before .before .before .before .before .before .before .before .pre .count) (k .0) (k .1 .0) (k .1 .1 .0) (k .1 .1 .1 .0) (k .1 .1 .1 .1 .0))
-    refl (c .before .before .write .ensures)
+    let at-fill-nodes = c .before .before .before .before .before .before .before .before .before .before .before .before .before .before .before
+    .before .before .fill-nodes in
+    let at-pre = c .before .before .before .before .before .before .before .before .before .before .before .before .before .before .before .before
+    .before .before .before .before .before .before .before .before .pre in
+    let at-write = c .before .before .write in
+    let k = at-fill-nodes .kept .1 .1 .1 .1 in
+    script-written _ _ at-pre (at-fill-nodes .ensures)
+    (long-by (at-pre .count) (k .0) (k .1 .0) (k .1 .1 .0) (k .1 .1 .1 .0) (k .1 .1 .1 .1 .0))
+    refl (at-write .ensures)
 
 pub write-script-spec : {M : Type 1} → statement M
 write-script-spec =

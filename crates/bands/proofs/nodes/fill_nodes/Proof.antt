@@ -1,5 +1,5 @@
 -- `bands::nodes::fill_nodes` meets its contract: the loop fills. Assumes nothing.
-use Prim.Native.Nat.{ℕ, _-_}
+use Prim.Native.Nat.{_-_}
 use mathlib.Core.Path.{refl}
 use borrow.Author.Needs.{needs}
 use native.Mathlib.Omega.{arith}
@@ -26,18 +26,35 @@ sub-nodes c = omega (arith, c .before .before .before .before .pre .0 .any)
 
 node-requires : tie.Need-node-requires Inv-loop μ-loop
 unfolding bandNodes
-node-requires c κs = record { any = c .before .before .before .before .before .before .pre .0 .any; few = c .before .before .before .before .before .before .pre .0 .few; bound = omega (arith, c .loop-test .taken) }
+node-requires c κs =
+    let at-pre = c .before .before .before .before .before .before .pre in
+    record { any = at-pre .0 .any; few = at-pre .0 .few; bound = omega (arith, c .loop-test .taken) }
 
 loop-again : tie.Need-loop-again Inv-loop μ-loop
 unfolding bandNodes
-loop-again c = fill-goes-on _ _ _ _ _ _ _ (c .before .before .before .before .before .before .before .before .before .before .before .before .before .before .before .before .before .loop .inv) (c .before .before .before .before .before .before .before .before .before .before .before .before .before .before .before .before .loop-test .taken) refl (c .before .before .before .before .before .before .before .before .before .before .before .before .before .before .before .node .ensures) (c .before .before .before .before .before .before .before .before .before .put-node .ensures)
+loop-again c =
+    let at-loop = c .before .before .before .before .before .before .before .before .before .before .before .before .before .before .before .before
+    .before .loop in
+    let at-loop-test = c .before .before .before .before .before .before .before .before .before .before .before .before .before .before .before
+    .before .loop-test in
+    let at-node = c .before .before .before .before .before .before .before .before .before .before .before .before .before .before .before .node in
+    let at-put-node = c .before .before .before .before .before .before .before .before .before .put-node in
+    fill-goes-on _ _ _ _ _ _ _ (at-loop .inv) (at-loop-test .taken) refl (at-node .ensures) (at-put-node .ensures)
 
 add-i : tie.Need-add-i Inv-loop μ-loop
 unfolding maxRows
-add-i c = omega (arith, c .before .before .before .before .before .before .before .before .before .before .before .before .before .before .before .before .before .before .before .before .before .before .pre .0 .few, c .before .before .before .before .before .before .before .before .before .before .before .before .before .before .before .before .loop-test .taken)
+add-i c =
+    let at-pre = c .before .before .before .before .before .before .before .before .before .before .before .before .before .before .before .before
+    .before .before .before .before .before .before .pre in
+    let at-loop-test = c .before .before .before .before .before .before .before .before .before .before .before .before .before .before .before
+    .before .loop-test in
+    omega (arith, at-pre .0 .few, at-loop-test .taken)
 
 loop-less : tie.Need-loop-less Inv-loop μ-loop
-loop-less c = omega (arith, c .before .before .before .before .before .before .before .before .before .before .before .before .before .before .before .before .loop-test .taken)
+loop-less c =
+    let at-loop-test = c .before .before .before .before .before .before .before .before .before .before .before .before .before .before .before
+    .before .loop-test in
+    omega (arith, at-loop-test .taken)
 
 loop-holds : tie.Need-loop-holds Inv-loop μ-loop
 loop-holds c = fill-begins _ _ _ _ _ _ _ (c .before .before .before .before .pre .1)

@@ -1,10 +1,6 @@
 -- `bands::nodes::node` meets its contract: a row before the last, the last row, an if. Assumes nothing.
-use Prim.Native.Nat.{_+_, _-_, _/_, _%_}
-use mathlib.Core.Path.{_∙_}
 use borrow.Author.Needs.{needs}
 use native.Mathlib.Omega.{arith}
-use mir.Syntax.{w32}
-use mir.Facts.{toZ-ofZ}
 use Rattle.bands.specs.Rows.{maxRows}
 use Rattle.bands.specs.BandScript.{bandNodes}
 use Rattle.bands.proofs.Numbering.{fore-told, last-told, if-told}
@@ -19,13 +15,21 @@ part-requires : tie.Need-part-requires
 part-requires c κs = record { before = λ h. omega arith; last = omega arith }
 
 returns : tie.Need-returns
-returns c = fore-told _ _ (c .part .ensures) (omega (arith, c .before .before .before .if1 .taken, c .before .before .before .before .first-of .ensures)) (search needs) (search needs)
+returns c =
+    let at-if1 = c .before .before .before .if1 in
+    let at-first-of = c .before .before .before .before .first-of in
+    fore-told _ _ (c .part .ensures) (omega (arith, at-if1 .taken, at-first-of .ensures)) (search needs) (search needs)
 
 part-requires-2 : tie.Need-part-requires-2
 part-requires-2 c κs = record { before = λ h. omega (arith, c .before .before .if1 .left); last = omega arith }
 
 returns-2 : tie.Need-returns-2
-returns-2 c = last-told _ _ (c .part2 .ensures) (c .before .before .before .before .first-of .ensures) (c .before .before .before .before .before .pre .any) (c .before .before .before .if1 .left) (c .before .before .if2 .taken) (search needs)
+returns-2 c =
+    let at-first-of = c .before .before .before .before .first-of in
+    let at-pre = c .before .before .before .before .before .pre in
+    let at-if1 = c .before .before .before .if1 in
+    let at-if2 = c .before .before .if2 in
+    last-told _ _ (c .part2 .ensures) (at-first-of .ensures) (at-pre .any) (at-if1 .left) (at-if2 .taken) (search needs)
 
 add-first-of : tie.Need-add-first-of
 unfolding maxRows
@@ -44,7 +48,13 @@ unfolding maxRows
 first-of-requires-2 c κs = omega (arith, c .if2 .left, c .before .before .first-of .ensures, c .before .before .before .pre .few)
 
 returns-3 : tie.Need-returns-3
-returns-3 c = if-told _ _ (c .step .ensures) (omega (arith, c .before .first-of2 .ensures, c .before .before .before .before .first-of .ensures)) (omega (arith, c .before .before .if2 .left, c .before .before .before .before .first-of .ensures)) (c .before .before .before .before .before .pre .bound)
+returns-3 c =
+    let at-first-of2 = c .before .first-of2 in
+    let at-first-of = c .before .before .before .before .first-of in
+    let at-if2 = c .before .before .if2 in
+    let at-pre = c .before .before .before .before .before .pre in
+    if-told _ _ (c .step .ensures) (omega (arith, at-first-of2 .ensures, at-first-of .ensures)) (omega (arith, at-if2 .left, at-first-of .ensures))
+    (at-pre .bound)
 
 pub node-spec : {M : Type 1} → statement M
 node-spec =

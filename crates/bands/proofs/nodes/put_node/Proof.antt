@@ -19,12 +19,22 @@ value-put l {i = i} e f = record { put = e ∙ ap (set l i) (toZ-ofZ f) }
 
 returns : tie.Need-returns
 returns c =
+    let at-put8 = c .before .before .before .before .before .before .before .before .before .before .before .before .before .before .before .before
+    .before .before .put8 in
+    let at-put16 = c .before .before .before .before .before .before .before .before .before .before .before .before .before .before .put16 in
+    let at-put162 = c .before .before .before .before .before .before .before .before .before .before .put162 in
+    let at-put163 = c .before .before .before .before .before .before .put163 in
+    let at-put32 = c .before .put32 in
+    let at-good = c .before .before .before .before .before .before .before .before .before .before .before .before .before .before .before .before
+    .before .before .before .before .before .before .before .before .good in
     record {
-      kinds = record { put = c .before .before .before .before .before .before .before .before .before .before .before .before .before .before .before .before .before .before .put8 .ensures };
-      a = record { put = c .before .before .before .before .before .before .before .before .before .before .before .before .before .before .put16 .ensures };
-      b = record { put = c .before .before .before .before .before .before .before .before .before .before .put162 .ensures };
-      c = record { put = c .before .before .before .before .before .before .put163 .ensures };
-      values = value-put _ (c .before .put32 .ensures) (record { sfits = c .before .before .before .before .before .before .before .before .before .before .before .before .before .before .before .before .before .before .before .before .before .before .before .before .good .1 .1 .1 .1 .1 .1 .0 .1 .1 .1 .1 .1 .1 .0 .1 });
+      kinds = record { put = at-put8 .ensures };
+      a = record { put = at-put16 .ensures };
+      b = record { put = at-put162 .ensures };
+      c = record {
+        put = at-put163 .ensures;
+      };
+      values = value-put _ (at-put32 .ensures) (record { sfits = at-good .1 .1 .1 .1 .1 .1 .0 .1 .1 .1 .1 .1 .1 .0 .1 });
     }
 
 pub put-node-spec : {M : Type 1} → statement M

@@ -1,7 +1,6 @@
 -- `bands::rows::above_before` meets its contract: the first row has none before it. Assumes nothing.
 use borrow.Author.Needs.{needs}
 use mathlib.Core.Path.{refl}
-use native.Mathlib.Omega.{arith}
 use Rattle.bands.proofs.RowTests.{first-above, later-above}
 use Rattle.bands.proofs.rows.above_before.Statement.{statement}
 use Rattle.bands.proofs.rows.above_before.Tie as tie

@@ -20,10 +20,16 @@ least : {z : ℤ} {t : Bool} → SFits w32 z → leZ (pos 0) (held w32 z) ≡ t 
 least f e = sym (ap (leZ (pos 0)) (toZ-ofZ f)) ∙ e
 
 returns : tie.Need-returns
-returns c = row-right _ _ _ (ordered (c .before .before .fits .low) (c .before .before .fits .high) (c .before .if1 .taken)) (least (c .before .before .fits .grade) (c .if2 .taken)) (search needs)
+returns c =
+    let at-fits = c .before .before .fits in
+    let at-if1 = c .before .if1 in
+    row-right _ _ _ (ordered (at-fits .low) (at-fits .high) (at-if1 .taken)) (least (at-fits .grade) (c .if2 .taken)) (search needs)
 
 returns-2 : tie.Need-returns-2
-returns-2 c = grade-negative _ _ _ (ordered (c .before .before .fits .low) (c .before .before .fits .high) (c .before .if1 .taken)) (least (c .before .before .fits .grade) (c .if2 .left))
+returns-2 c =
+    let at-fits = c .before .before .fits in
+    let at-if1 = c .before .if1 in
+    grade-negative _ _ _ (ordered (at-fits .low) (at-fits .high) (at-if1 .taken)) (least (at-fits .grade) (c .if2 .left))
 
 returns-3 : tie.Need-returns-3
 returns-3 c = low-above-high _ _ _ (ordered (c .before .fits .low) (c .before .fits .high) (c .if1 .left))

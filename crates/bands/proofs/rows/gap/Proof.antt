@@ -1,5 +1,5 @@
 -- `bands::rows::gap` meets its contract: the loop searches. Assumes nothing.
-use Prim.Native.Nat.{ℕ, suc, _-_}
+use Prim.Native.Nat.{suc, _-_}
 use native.Mathlib.Omega.{arith}
 use borrow.Author.Needs.{needs}
 use Rattle.lambdamix.specs.Refusal.{refusedAt}
@@ -18,11 +18,21 @@ abbrev μ-loop : tie.MeasureT-loop
 μ-loop count low high grade k₀ k = suc count - k
 
 loop-again : tie.Need-loop-again Inv-loop μ-loop
-loop-again c = search-goes-on _ (c .before .before .before .loop .inv) (omega (arith, c .before .before .loop-test .taken)) (joins-tested _ _ _ _ (c .before .before .loop-test .taken) (c .before .joins-before .ensures) (c .if1 .taken))
+loop-again c =
+    let at-loop = c .before .before .before .loop in
+    let at-loop-test = c .before .before .loop-test in
+    let at-joins-before = c .before .joins-before in
+    search-goes-on _ (at-loop .inv) (omega (arith, at-loop-test .taken)) (joins-tested _ _ _ _ (at-loop-test .taken) (at-joins-before .ensures)
+    (c .if1 .taken))
 
 returns : tie.Need-returns Inv-loop μ-loop
 unfolding refusalOf refusedAt
-returns c = rw (← search-finds _ (c .before .before .before .loop .inv) (omega (arith, c .before .before .loop-test .taken)) (joins-tested _ _ _ _ (c .before .before .loop-test .taken) (c .before .joins-before .ensures) (c .if1 .left)))
+returns c =
+    let at-loop = c .before .before .before .loop in
+    let at-loop-test = c .before .before .loop-test in
+    let at-joins-before = c .before .joins-before in
+    rw (← search-finds _ (at-loop .inv) (omega (arith, at-loop-test .taken)) (joins-tested _ _ _ _ (at-loop-test .taken) (at-joins-before .ensures)
+    (c .if1 .left)))
 
 returns-2 : tie.Need-returns-2 Inv-loop μ-loop
 unfolding refusalOf refusedAt

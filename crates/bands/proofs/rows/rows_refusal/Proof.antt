@@ -13,17 +13,36 @@ gap-requires c κs = omega (arith, c .before .before .before .before .before .be
 
 returns : tie.Need-returns
 unfolding maxRows
-returns c = wrong-told _ _ (c .before .before .before .wrong-row .ensures) (c .before .before .before .before .before .if1 .taken) (omega (arith, c .before .before .before .before .if2 .taken)) (c .before .f .given .1) refl
+returns c =
+    let at-wrong-row = c .before .before .before .wrong-row in
+    let at-if1 = c .before .before .before .before .before .if1 in
+    let at-if2 = c .before .before .before .before .if2 in
+    let at-f = c .before .f in
+    wrong-told _ _ (at-wrong-row .ensures) (at-if1 .taken) (omega (arith, at-if2 .taken)) (at-f .given .1) refl
 
 returns-2 : tie.Need-returns-2
 unfolding maxRows
 returns-2 c =
-    overlap-told _ _ (c .before .before .before .before .before .before .wrong-row .ensures) (c .before .before .before .overlap .ensures) (c .before .before .before .before .before .before .before .before .if1 .taken) (omega (arith, c .before .before .before .before .before .before .before .if2 .taken)) (c .before .before .before .before .enum-told .given .1) (c .before .f2 .given .1) refl
+    let at-wrong-row = c .before .before .before .before .before .before .wrong-row in
+    let at-overlap = c .before .before .before .overlap in
+    let at-if1 = c .before .before .before .before .before .before .before .before .if1 in
+    let at-if2 = c .before .before .before .before .before .before .before .if2 in
+    let at-enum-told = c .before .before .before .before .enum-told in
+    let at-f2 = c .before .f2 in
+    overlap-told _ _ (at-wrong-row .ensures) (at-overlap .ensures) (at-if1 .taken) (omega (arith, at-if2 .taken)) (at-enum-told .given .1)
+    (at-f2 .given .1) refl
 
 returns-3 : tie.Need-returns-3
 unfolding maxRows
 returns-3 c =
-    gap-told _ _ (c .before .before .before .before .before .before .wrong-row .ensures) (c .before .before .before .overlap .ensures) (c .gap .ensures) (c .before .before .before .before .before .before .before .before .if1 .taken) (omega (arith, c .before .before .before .before .before .before .before .if2 .taken)) (c .before .before .before .before .enum-told .given .1) (c .before .enum-told2 .given .1)
+    let at-wrong-row = c .before .before .before .before .before .before .wrong-row in
+    let at-overlap = c .before .before .before .overlap in
+    let at-if1 = c .before .before .before .before .before .before .before .before .if1 in
+    let at-if2 = c .before .before .before .before .before .before .before .if2 in
+    let at-enum-told = c .before .before .before .before .enum-told in
+    let at-enum-told2 = c .before .enum-told2 in
+    gap-told _ _ (at-wrong-row .ensures) (at-overlap .ensures) (c .gap .ensures) (at-if1 .taken) (omega (arith, at-if2 .taken))
+    (at-enum-told .given .1) (at-enum-told2 .given .1)
 
 returns-4 : tie.Need-returns-4
 unfolding refusalOf maxRows

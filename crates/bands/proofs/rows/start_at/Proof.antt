@@ -7,7 +7,11 @@ use Rattle.bands.proofs.rows.start_at.Statement.{statement}
 use Rattle.bands.proofs.rows.start_at.Tie as tie
 
 returns : tie.Need-returns
-returns c = row-start _ (c .before .before .if1 .taken) (c .before .at32 .ensures) (toZ-ofZ {w = w64} (record { sfits = c .wide .ok }) ∙ c .wide .ensures ∙ toZ-ofZ {w = w32} (record { sfits = c .before .at32 .ok }))
+returns c =
+    let at-if1 = c .before .before .if1 in
+    let at-at32 = c .before .at32 in
+    row-start _ (at-if1 .taken) (at-at32 .ensures) (toZ-ofZ {w = w64} (record { sfits = c .wide .ok }) ∙ c .wide .ensures ∙ toZ-ofZ {w = w32}
+    (record { sfits = at-at32 .ok }))
 
 returns-2 : tie.Need-returns-2
 returns-2 c = past-start _ (c .if1 .left)

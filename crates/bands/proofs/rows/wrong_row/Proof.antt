@@ -1,5 +1,5 @@
 -- `bands::rows::wrong_row` meets its contract: the loop searches. Assumes nothing.
-use Prim.Native.Nat.{ℕ, suc, _-_}
+use Prim.Native.Nat.{_-_}
 use mathlib.Core.Path.{_∙_}
 use native.Mathlib.Omega.{arith}
 use mir.Syntax.{w32}
@@ -22,14 +22,28 @@ abbrev μ-loop : tie.MeasureT-loop
 
 loop-again : tie.Need-loop-again Inv-loop μ-loop
 loop-again c =
-    search-goes-on _ (c .before .before .before .before .before .before .loop .inv) (omega (arith, c .before .before .before .before .before .loop-test .taken)) (right-tested _ _ _ _ (c .before .before .before .before .before .loop-test .taken) (toZ-ofZ {w = w32} (record { sfits = c .before .before .before .before .at32 .ok }) ∙ c .before .before .before .before .at32 .ensures)
-    (toZ-ofZ {w = w32} (record { sfits = c .before .before .before .at322 .ok }) ∙ c .before .before .before .at322 .ensures) (toZ-ofZ {w = w32} (record { sfits = c .before .before .at323 .ok }) ∙ c .before .before .at323 .ensures) (c .before .band-right .ensures) (c .if1 .taken))
+    let at-loop = c .before .before .before .before .before .before .loop in
+    let at-loop-test = c .before .before .before .before .before .loop-test in
+    let at-at32 = c .before .before .before .before .at32 in
+    let at-at322 = c .before .before .before .at322 in
+    let at-at323 = c .before .before .at323 in
+    let at-band-right = c .before .band-right in
+    search-goes-on _ (at-loop .inv) (omega (arith, at-loop-test .taken)) (right-tested _ _ _ _ (at-loop-test .taken) (toZ-ofZ {w = w32}
+    (record { sfits = at-at32 .ok }) ∙ at-at32 .ensures) (toZ-ofZ {w = w32} (record { sfits = at-at322 .ok }) ∙ at-at322 .ensures)
+    (toZ-ofZ {w = w32} (record { sfits = at-at323 .ok }) ∙ at-at323 .ensures) (at-band-right .ensures) (c .if1 .taken))
 
 returns : tie.Need-returns Inv-loop μ-loop
 unfolding refusalOf refusedAt
 returns c =
-    rw (← search-finds _ (c .before .before .before .before .before .before .loop .inv) (omega (arith, c .before .before .before .before .before .loop-test .taken)) (right-tested _ _ _ _ (c .before .before .before .before .before .loop-test .taken) (toZ-ofZ {w = w32} (record { sfits = c .before .before .before .before .at32 .ok }) ∙ c .before .before .before .before .at32 .ensures)
-    (toZ-ofZ {w = w32} (record { sfits = c .before .before .before .at322 .ok }) ∙ c .before .before .before .at322 .ensures) (toZ-ofZ {w = w32} (record { sfits = c .before .before .at323 .ok }) ∙ c .before .before .at323 .ensures) (c .before .band-right .ensures) (c .if1 .left)))
+    let at-loop = c .before .before .before .before .before .before .loop in
+    let at-loop-test = c .before .before .before .before .before .loop-test in
+    let at-at32 = c .before .before .before .before .at32 in
+    let at-at322 = c .before .before .before .at322 in
+    let at-at323 = c .before .before .at323 in
+    let at-band-right = c .before .band-right in
+    rw (← search-finds _ (at-loop .inv) (omega (arith, at-loop-test .taken)) (right-tested _ _ _ _ (at-loop-test .taken) (toZ-ofZ {w = w32}
+    (record { sfits = at-at32 .ok }) ∙ at-at32 .ensures) (toZ-ofZ {w = w32} (record { sfits = at-at322 .ok }) ∙ at-at322 .ensures)
+    (toZ-ofZ {w = w32} (record { sfits = at-at323 .ok }) ∙ at-at323 .ensures) (at-band-right .ensures) (c .if1 .left)))
 
 returns-2 : tie.Need-returns-2 Inv-loop μ-loop
 unfolding refusalOf refusedAt

@@ -14,7 +14,11 @@ abbrev μ-loop : tie.MeasureT-loop
 μ-loop «record» at count file heap₀ j₀ heap j = count - j
 
 loop-again : tie.Need-loop-again Inv-loop μ-loop
-loop-again c = (omega (arith, c .before .before .before .before .before .before .before .loop-test .taken), c .before .before .before .run-file .kept .1 .1 .1 .0 ∙ c .before .before .before .before .before .before .before .before .loop .inv .1)
+loop-again c =
+    let at-loop-test = c .before .before .before .before .before .before .before .loop-test in
+    let at-run-file = c .before .before .before .run-file in
+    let at-loop = c .before .before .before .before .before .before .before .before .loop in
+    (omega (arith, at-loop-test .taken), at-run-file .kept .1 .1 .1 .0 ∙ at-loop .inv .1)
 
 same-length : tie.Need-same-length Inv-loop μ-loop
 same-length c = c .before .loop .inv .1
