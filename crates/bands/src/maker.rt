@@ -1,5 +1,6 @@
 // The entry: rows to the file of their script.
 use crate::nodes::fill_nodes;
+use crate::rows::MAX_ROWS;
 use crate::rows::columns_refusal;
 use file::writer::write;
 use script::Counts;
@@ -10,8 +11,8 @@ ghost use Rattle.script.specs.Verdicts.{Fitted};
 ghost use Rattle.bands.specs.Calls.{columnsOf, bandBytes, MakesBands};
 ghost use Rattle.bands.specs.Steps.{Writable};
 
-// The nodes of the script of 32 rows.
-const MAX_BAND_NODES: usize = 219;
+// The nodes of the script of the most rows.
+const MAX_BAND_NODES: usize = 7 * (MAX_ROWS as usize) - 5;
 
 // The file of the rows' script, if the output has room for it, else 21.
 fn write_script(count: u16, low: &[i32], high: &[i32], grade: &[i32], out: &mut [u8]) -> Writing

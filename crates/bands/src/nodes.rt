@@ -6,7 +6,7 @@ use script::column::put8;
 use script::column::put16;
 use script::column::put32;
 ghost use mathlib.Core.Path.{_≡_};
-ghost use Prim.Native.Nat.{_*_, _≤_};
+ghost use Prim.Native.Nat.{_*_, _<_};
 ghost use lib.IntN.{pos};
 ghost use Rattle.lambdamix.specs.Script.{nodeAt};
 ghost use Rattle.lambdamix.specs.Code.{node};
@@ -55,7 +55,7 @@ fn part(p: u16, i: u16, low: i32, grade: i32) -> BandNode
 
 // The number of the first node of a row.
 fn first_of(row: u16) -> u16
-    requires { ⌜ row ≤ 32 ⌝ }
+    requires { ⌜ row < 256 ⌝ }
     ensures { λ r. ⌜ r ≡ 6 * row ⌝ }
 {
     6 * row

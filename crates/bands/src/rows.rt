@@ -8,12 +8,12 @@ ghost use lib.IntN.{sucℤ};
 ghost use lib.Signed.{leZ};
 ghost use Rattle.lambdamix.specs.Refusal.{firstFailing, refusedAt};
 ghost use Rattle.script.specs.Verdicts.{refusalOf};
-ghost use Rattle.bands.specs.Rows.{bandRight, bandAt, aboveBefore, joinsBefore, rowsRefusal};
+ghost use Rattle.bands.specs.Rows.{maxRows, bandRight, bandAt, aboveBefore, joinsBefore, rowsRefusal};
 ghost use Rattle.bands.specs.Calls.{columnsOf, rowsIn, columnsRefusal};
 ghost use Rattle.bands.specs.Steps.{aboveIn, leftIn, startIn};
 
 // "It takes 1 to 32 rows"
-const MAX_ROWS: u16 = 32;
+pub(crate) const MAX_ROWS: u16 = 32;
 
 // "grade (0 to 255)"
 const MAX_GRADE: i32 = 255;
@@ -124,7 +124,7 @@ fn overlap(count: u16, low: &[i32], high: &[i32], grade: &[i32]) -> Verdict
 
 // 32: the first row behind a gap, or the count of rows.
 fn gap(count: u16, low: &[i32], high: &[i32], grade: &[i32]) -> Verdict
-    requires { ⌜ count ≤ 32 ⌝ }
+    requires { ⌜ count ≤ maxRows ⌝ }
     ensures { λ r. ⌜ refusalOf r ≡ refusedAt 32 (firstFailing (joinsBefore (rowsIn count (columnsOf (now (low .entry)) (now (high .entry)) (now (grade .entry))))) 0 (suc count)) ⌝ }
 {
     let mut k: u16 = 0;

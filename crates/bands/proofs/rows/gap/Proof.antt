@@ -5,7 +5,7 @@ use borrow.Author.Needs.{needs}
 use Rattle.lambdamix.specs.Refusal.{refusedAt}
 use Rattle.script.specs.Verdicts.{refusalOf}
 use Rattle.script.proofs.Searching.{Searching, search-begins, search-goes-on, search-finds, search-ends}
-use Rattle.bands.specs.Rows.{joinsBefore}
+use Rattle.bands.specs.Rows.{maxRows, joinsBefore}
 use Rattle.bands.specs.Calls.{columnsOf, rowsIn}
 use Rattle.bands.proofs.RowTests.{joins-tested}
 use Rattle.bands.proofs.rows.gap.Statement.{statement}
@@ -39,6 +39,7 @@ unfolding refusalOf refusedAt
 returns-2 c = rw (← search-ends _ (c .before .loop .inv) (omega (arith, c .loop-test .left)))
 
 pub gap-spec : {M : Type 1} → statement M
+unfolding maxRows
 gap-spec =
     tie.close
     (tie.spec

@@ -9,6 +9,7 @@ use Rattle.bands.proofs.rows.rows_refusal.Statement.{statement}
 use Rattle.bands.proofs.rows.rows_refusal.Tie as tie
 
 gap-requires : tie.Need-gap-requires
+unfolding maxRows
 gap-requires c κs = omega (arith, c .before .before .before .before .before .before .if2 .taken)
 
 returns : tie.Need-returns
