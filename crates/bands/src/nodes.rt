@@ -1,5 +1,6 @@
-// The nodes of the rows' script, each by its number. A row before the last has six nodes: the input, the next low, its lift, `<`, the grade, its lift; the last row
-// has the last two of them; then stands the if of each row before the last, the last such row first.
+// The nodes of the rows' script, each by its number. A row before the last has six nodes: the input, the next low, its lift, `<`, the grade, its lift; the
+// last row has the last two of them; then stands the if of each row before the last, the last such row first. The highs are handed on for the contracts,
+// which speak of rows.
 use crate::BandNode;
 use script::column::at32;
 use script::column::put8;

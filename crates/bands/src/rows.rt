@@ -1,4 +1,4 @@
-// Rows: refusals 1, 30, 31 and 32.
+// Rows: refusals 1, 30, 31 and 32. A function that looks at two columns is handed all three, since its contract speaks of rows.
 use script::Refusal;
 use script::Verdict;
 use script::column::at32;
