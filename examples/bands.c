@@ -121,7 +121,10 @@ static int grade_all(size_t length, const int32_t *readings, size_t given) {
             printf("ran: number %u place %zu steps %u\n", ran.number, ran.place, ran.steps);
             return 1;
         }
-        printf("%ld: %ld\n", (long)readings[k], (long)ran.value);
+        if (ran.function)
+            printf("%ld: a function\n", (long)readings[k]);
+        else
+            printf("%ld: %ld\n", (long)readings[k], (long)ran.value);
     }
     return 0;
 }

@@ -76,10 +76,10 @@ fn grade_all(file: &[u8], readings: &[i32], said: &mut String) -> Result<(), Ref
     let mut heap = vec![0; MAX_FUEL as usize + MAX_INPUTS];
     for reading in readings {
         match script.run(&[*reading], MAX_FUEL, &mut heap) {
-            Ok(ran) => {
-                let Outcome::Number(grade) = ran.outcome else { continue };
-                *said += &format!("{reading}: {grade}\n");
-            }
+            Ok(ran) => match ran.outcome {
+                Outcome::Number(grade) => *said += &format!("{reading}: {grade}\n"),
+                Outcome::Function => *said += &format!("{reading}: a function\n"),
+            },
             Err(f) => {
                 *said += &format!("ran: number {} place {} steps {}\n", f.number, f.place, f.steps);
                 return Err(f);

@@ -4,7 +4,6 @@ use mathlib.Core.Path.{_≡_, refl}
 use mathlib.Core.Bool.{true}
 use mathlib.Core.List.{List, [], _∷_}
 use mathlib.Core.Option.{none}
-use mathlib.Core.Logic.{inl}
 use native.Mathlib.Omega.{arith}
 use lib.ListN.{length, getD}
 use lib.Dec.{leb}
@@ -21,7 +20,8 @@ use Rattle.lambdamix.proofs.Checking.{checker-accepts}
 use Rattle.lambdamix.proofs.Range.{CodeFits}
 use Rattle.lambdamix.proofs.Suits.{Scoped, lit-scoped, input-scoped, form-scoped, nil-scoped, cons-scoped}
 use Rattle.lambdamix.proofs.Tests.{and-intro}
-use Rattle.lambdamix.proofs.Written.{Closed, closed-lit, closed-ref, closed-form, closed-nil, closed-cons, written-accepted}
+use Rattle.lambdamix.proofs.Written.{written-accepted}
+use Rattle.lambdamix.proofs.WrittenAgain.{scoped-closed}
 use Rattle.script.specs.File.{fileBytes}
 use Rattle.script.specs.Refusals.{inputFits, scriptRefusal}
 use Rattle.file.specs.Encodable.{Encodable}
@@ -42,21 +42,13 @@ the-input : DynamicInput oneInput 0
 unfolding inputCount
 the-input = record { input = omega arith; dynamic = refl }
 
-part-scoped : (r : Band) (rows : List Band) → Scoped oneInput 1 [] (rowPart r rows)
+pub part-scoped : (r : Band) (rows : List Band) → Scoped oneInput 1 [] (rowPart r rows)
 unfolding rowPart arity
 part-scoped r [] = lit-scoped
 part-scoped r (q ∷ rows) =
     form-scoped refl
     (cons-scoped (form-scoped refl (cons-scoped (input-scoped the-input) (cons-scoped lit-scoped nil-scoped)))
     (cons-scoped lit-scoped (cons-scoped (part-scoped q rows) nil-scoped)))
-
-part-closed : (r : Band) (rows : List Band) → Closed oneInput [] (rowPart r rows)
-unfolding rowPart arity
-part-closed r [] = closed-lit
-part-closed r (q ∷ rows) =
-    closed-form refl
-    (closed-cons (closed-form refl (closed-cons (closed-ref (inl the-input)) (closed-cons closed-lit closed-nil)))
-    (closed-cons closed-lit (closed-cons (part-closed q rows) closed-nil)))
 
 part-in-range : (r : Band) (rows : List Band) → Fitting (r ∷ rows) → CodeFits (rowPart r rows)
 unfolding rowPart bandAt
@@ -95,7 +87,7 @@ script-passes (r ∷ rows) a b f =
     let scoped = part-scoped r rows in
     let range = part-in-range r rows f in
     let fit = part-fits r rows b in
-    let (structured, dynamic) = written-accepted oneInput (part-closed r rows) fit in (
+    let (structured, dynamic) = written-accepted oneInput (scoped-closed scoped) fit in (
       written-fits oneInput few-inputs inputs-right scoped (omega arith) range fit,
       written-passes oneInput few-inputs inputs-right scoped (omega arith) range fit structured,
       checker-accepts (written oneInput (rowPart r rows)) .1 dynamic,

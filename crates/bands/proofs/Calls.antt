@@ -12,7 +12,6 @@ use lib.Dec.{eqb}
 use borrow.Author.Tests.{le-leb, eqb-false}
 use Rattle.lambdamix.specs.Refusal.{Refusal, orElse, refusedUnless, refusedAt}
 use Rattle.script.specs.declared.Counts.{Counts}
-use Rattle.script.specs.declared.Verdict.the-variants as Verdict
 use Rattle.script.specs.declared.Reading.{Reading}
 use Rattle.script.specs.declared.Writing.{Writing}
 use Rattle.script.specs.Tables.{Tables, longEnough, filled, readRefusal, readTables, roomRefusal, writtenOutput}
@@ -20,7 +19,6 @@ use Rattle.script.specs.File.{scriptIn, headTypes, headInputs, headNodes}
 use Rattle.script.specs.Replies.{Reply, headCounts, replying, Form, writingReply, Reads}
 use Rattle.script.proofs.RefusalLaws.{neither, either-some, node-number}
 use Rattle.reading.proofs.FillLaws.{file-held, filled-long}
-use Rattle.plainrun.specs.declared.Reply as Ran
 use Rattle.bands.specs.Rows.{maxRows, rowsRefusal}
 use Rattle.bands.specs.BandScript.{bandNodes, bandLength}
 use Rattle.bands.specs.Calls.{Columns, rowsIn, columnsRefusal, bandBytes, bandsRefusal, MakesBandsAs, MakesBands}
@@ -100,30 +98,32 @@ room-for-any m x out c h = room-for-bands m x out c (omega (arith, row-count m x
 
 -- ---- through reader, checker and plain run
 
--- tables that the reader filled from the file hold it
-reader-holds :
-    (m : ℕ) (x : Columns) (left : List ℕ) (y z : Tables) (q : Reading) → GradesByRows m x left → longEnough 0 1 (bandNodes m) y ≡ true →
-    Reads (bandFile m left) y z q → HoldFile m left z
-unfolding readRefusal readTables refusedUnless orElse headCounts
-reader-holds m x left y z q g long reads =
-    let bs = bandFile m left in
-    let t : headTypes bs ≡ 0 = ap (λ (n : Counts). n .types) (g .counts) in
-    let i : headInputs bs ≡ 1 = ap (λ (n : Counts). n .inputs) (g .counts) in
-    let n : headNodes bs ≡ bandNodes m = ap (λ (n : Counts). n .nodes) (g .counts) in
-    let tables : z ≡ filled (scriptIn bs) y = rw (g .accepted .read, t, i, n, long) at (reads .tables) in
-    subst⁻¹ (HoldFile m left) tables
-    (record { long = filled-long 0 1 (bandNodes m) (scriptIn bs) y long; script = rw (t, i, n) at (file-held bs y) })
+module _ (m : ℕ) (x : Columns) (left : List ℕ) (y : Tables) (g : GradesByRows m x left) (long : longEnough 0 1 (bandNodes m) y ≡ true) where
+  -- what the file's head counts
+  no-types : headTypes (bandFile m left) ≡ 0
+  unfolding headCounts
+  no-types = ap (λ (n : Counts). n .types) (g .counts)
 
-file-read :
-    (m : ℕ) (x : Columns) (left : List ℕ) (y : Tables) → GradesByRows m x left → longEnough 0 1 (bandNodes m) y ≡ true →
-    readRefusal (bandFile m left) y ≡ none
-unfolding readRefusal refusedUnless orElse headCounts
-file-read m x left y g long =
-    let bs = bandFile m left in
-    let t : headTypes bs ≡ 0 = ap (λ (n : Counts). n .types) (g .counts) in
-    let i : headInputs bs ≡ 1 = ap (λ (n : Counts). n .inputs) (g .counts) in
-    let n : headNodes bs ≡ bandNodes m = ap (λ (n : Counts). n .nodes) (g .counts) in
-    rw (g .accepted .read, t, i, n, long)
+  one-input : headInputs (bandFile m left) ≡ 1
+  unfolding headCounts
+  one-input = ap (λ (n : Counts). n .inputs) (g .counts)
+
+  all-nodes : headNodes (bandFile m left) ≡ bandNodes m
+  unfolding headCounts
+  all-nodes = ap (λ (n : Counts). n .nodes) (g .counts)
+
+  file-read : readRefusal (bandFile m left) y ≡ none
+  unfolding readRefusal refusedUnless orElse
+  file-read = rw (g .accepted .read, no-types, one-input, all-nodes, long)
+
+  -- tables that the reader filled from the file hold it
+  reader-holds : (z : Tables) (q : Reading) → Reads (bandFile m left) y z q → HoldFile m left z
+  unfolding readTables
+  reader-holds z q reads =
+      let bs = bandFile m left in
+      let tables : z ≡ filled (scriptIn bs) y = rw file-read at (reads .tables) in
+      subst⁻¹ (HoldFile m left) tables
+      (record { long = filled-long 0 1 (bandNodes m) (scriptIn bs) y long; script = rw (no-types, one-input, all-nodes) at (file-held bs y) })
 
 -- Theorem: bands that a call made serve their user: the file that it left is read and accepted, and its plain run with fuel 16,000 and a store of
 -- 16,016 places or more grades each 32-bit reading by its row.
@@ -132,7 +132,7 @@ pub bands-serve :
     longEnough 0 1 (bandNodes m) y ≡ true → (q : Reading) → Reads (bandFile m after) y z q → ServesCalls m x after y z
 bands-serve m x before after r h e y z long q reads =
     let g = bands-leave _ m x before after r h (number-zero m x before _ (ap (λ (p : Reply ℕ). p .number) (sym (h .text .reply)) ∙ e)) in
-    let held = reader-holds m x after y z q g long reads in
+    let held = reader-holds m x after y g long z q reads in
     record {
       read = λ s t. ap (λ (p : Reply Counts). p .number) (t .reply) ∙ told-zero _ (file-read m x after y g long);
       checked = λ v t. ap (λ (p : Reply (Unit {0})). p .number) (t .reply) ∙ told-zero tt (g .checked z held);

@@ -14,7 +14,7 @@ use Rattle.lambdamix.specs.declared.Operator.the-variants.{Less}
 use Rattle.lambdamix.specs.Arithmetic.{Fits32, exactResult, truth, Gives}
 use Rattle.lambdamix.specs.Limits.{maxDepth, maxFuel}
 use Rattle.lambdamix.specs.Script.{Script, inputCount}
-use Rattle.lambdamix.specs.Term.{Term, childAt, arity}
+use Rattle.lambdamix.specs.Term.{Term, childAt}
 use Rattle.lambdamix.specs.Erasure.{erase, staticForm}
 use Rattle.lambdamix.specs.Value.{Value, number, Environment, empty, bind, valueAt, valueAtBy}
 use Rattle.lambdamix.specs.Evaluation.{Job, visit, branch, branchBy}
@@ -25,7 +25,9 @@ use Rattle.lambdamix.specs.Checker.{annotationRefusal}
 use Rattle.lambdamix.specs.Code.{written}
 use Rattle.lambdamix.proofs.Erasure.{plain-job}
 use Rattle.lambdamix.proofs.PlainRun.{plain-deeper, evaluated-by-rules}
-use Rattle.lambdamix.proofs.WrittenTree.{writtenTerm, written-tree, WellFormed, formed-lit, formed-ref, formed-form, formed-nil, formed-cons}
+use Rattle.lambdamix.proofs.WrittenTree.{writtenTerm, written-tree}
+use Rattle.lambdamix.proofs.Written.{closed-formed}
+use Rattle.lambdamix.proofs.WrittenAgain.{scoped-closed}
 use Rattle.script.specs.Widths.{AllFit}
 use Rattle.script.specs.File.{scriptIn, fileBytes, typeFrom, inputFrom, nodeFrom, typeOffset, inputOffset, nodeOffset, headTypes, headInputs, headNodes}
 use Rattle.script.specs.Refusals.{scriptRefusal}
@@ -44,7 +46,7 @@ use Rattle.bands.specs.BandScript.{rowPart, bandCode, oneInput, bandScri
 use Rattle.bands.specs.Calls.{Columns, rowIn, rowsIn, bandBytes, columnsRefusal}
 use Rattle.bands.specs.Grading.{bandSteps, bandDepth, GradesAs, bandFile, HoldFile, RunGives, GradesByRows}
 use Rattle.bands.proofs.RowTests.{rows-length, band-at}
-use Rattle.bands.proofs.Acceptance.{script-passes, script-accepted}
+use Rattle.bands.proofs.Acceptance.{part-scoped, script-passes, script-accepted}
 use Rattle.bands.proofs.Writing.{script-nodes, band-length, row-count, columns-fit}
 use Rattle.bands.proofs.Covering.{rows-accepted, below-next, not-below}
 
@@ -102,14 +104,6 @@ selects z r (q ∷ rows) zero l a b = this-row (b (omega arith))
 selects z r (q ∷ rows) (suc k) l a b =
     later-row (a 0 (omega arith)) (selects z q rows k (omega arith) (λ j h. a (suc j) (omega arith)) (λ h. b (omega arith)))
 
-part-formed : (r : Band) (rows : List Band) → WellFormed (rowPart r rows)
-unfolding rowPart arity
-part-formed r [] = formed-lit
-part-formed r (q ∷ rows) =
-    formed-form
-    (formed-cons (formed-form (formed-cons formed-ref (formed-cons formed-lit formed-nil)))
-    (formed-cons formed-lit (formed-cons (part-formed q rows) formed-nil)))
-
 at-depth : {d d′ k : ℕ} {j : Job} {v : Value} → d ≡ d′ → Evaluates d j v k → Evaluates d′ j v k
 at-depth {k} {j} {v} e p = subst (λ d. Evaluates d j v k) e p
 
@@ -128,7 +122,7 @@ graded-by-rules (r ∷ rows) fit e z f k h =
     let d : suc (suc (length rows)) ≡ length (r ∷ rows) + 1 = omega arith in
     record {
       steps = stepsTo (length rows) k;
-      derived = rw (written-tree oneInput (part-formed r rows)) (at-depth d (part-evaluates z 0 chosen));
+      derived = rw (written-tree oneInput (closed-formed (scoped-closed (part-scoped r rows)))) (at-depth d (part-evaluates z 0 chosen));
       few = omega (arith, steps-few (length rows) k);
     }
 
@@ -159,7 +153,10 @@ module _ (m : ℕ) (x : Columns) (low : AllFit (x .low)) (high : AllFit (x .high
         (band-length (rowsIn m x) some-rows ∙ ap bandLength (rows-length m x))
 
     -- it is accepted
-    passes : Encodable (bandScript (rowsIn m x)) × (scriptRefusal (bandScript (rowsIn m x)) ≡ none) × (annotationRefusal (bandScript (rowsIn m x)) ≡ none)
+    passes :
+        Encodable (bandScript (rowsIn m x))
+        × (scriptRefusal (bandScript (rowsIn m x)) ≡ none)
+        × (annotationRefusal (bandScript (rowsIn m x)) ≡ none)
     passes = script-passes (rowsIn m x) some-rows few-rows (columns-fit m x low grade)
 
     file-script : (out : List ℕ) → scriptIn (bandFile m (over (bandBytes m x) out)) ≡ bandScript (rowsIn m x)
@@ -171,16 +168,14 @@ module _ (m : ℕ) (x : Columns) (low : AllFit (x .low)) (high : AllFit (x .high
     file-counts out =
         let bs = bandFile m (over (bandBytes m x) out) in
         let e = file-script out in
+        let types = length-numbered (λ j. typeFrom bs (typeOffset j)) 0 (headTypes bs) in
+        let inputs = length-numbered (λ j. inputFrom bs (inputOffset (headTypes bs) j)) 0 (headInputs bs) in
+        let nodes = length-numbered (λ j. nodeFrom bs (nodeOffset (headTypes bs) (headInputs bs) j)) 0 (headNodes bs) in
         λ i.
         record {
-          types = (sym (length-numbered (λ j. typeFrom bs (typeOffset j)) 0 (headTypes bs)) ∙ ap (λ (s : Script). length (s .types)) e) i;
-          inputs = (sym (length-numbered (λ j. inputFrom bs (inputOffset (headTypes bs) j)) 0 (headInputs bs)) ∙ ap (λ (s : Script). length (s .inputs)) e) i;
-          nodes =
-              (sym (length-numbered (λ j. nodeFrom bs (nodeOffset (headTypes bs) (headInputs bs) j)) 0 (headNodes bs))
-              ∙ ap (λ (s : Script). length (s .nodes)) e
-              ∙ script-nodes (rowsIn m x) some-rows
-              ∙ ap bandNodes (rows-length m x))
-              i;
+          types = (sym types ∙ ap (λ (s : Script). length (s .types)) e) i;
+          inputs = (sym inputs ∙ ap (λ (s : Script). length (s .inputs)) e) i;
+          nodes = (sym nodes ∙ ap (λ (s : Script). length (s .nodes)) e ∙ script-nodes (rowsIn m x) some-rows ∙ ap bandNodes (rows-length m x)) i;
         }
 
     module _ (out : List ℕ) {y : Tables} (h : HoldFile m (over (bandBytes m x) out) y) where

@@ -14,7 +14,7 @@ use Rattle.script.specs.Columns.{nodesIn}
 use Rattle.script.specs.Widths.{AllFit}
 use Rattle.bands.specs.declared.BandNode.{BandNode}
 use Rattle.bands.specs.Rows.{maxRows, startBy}
-use Rattle.bands.specs.BandScript.{bandScript, bandNodes}
+use Rattle.bands.specs.BandScript.{bandScript}
 use Rattle.bands.specs.Calls.{Columns, rowsIn}
 
 -- `aboveBefore`, `leftAt` and `startAt` of the rows in columns
@@ -48,12 +48,6 @@ partNode p i l g =
 pub record PartAt (p i : ℕ) : Type 0 where
   pub before : p < 4 → p ≤ i
   pub last : p ≤ i + 4
-
--- a node of the script of so many rows
-pub record NodeOf (m i : ℕ) : Type 0 where
-  pub any : 1 ≤ m
-  pub few : m ≤ maxRows
-  pub bound : i < bandNodes m
 
 -- columns that hold the first j nodes of the rows' script
 pub record HoldsNodes (m : ℕ) (x : Columns) (j : ℕ) (ks xs ys zs : List ℕ) (vs : List ℤ) : Type 0 where

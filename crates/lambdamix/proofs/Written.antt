@@ -46,7 +46,7 @@ mutual
         AllClosed s xs (consC c cs) (suc n)
 
 mutual
-  closed-formed : {s : Script} {xs : List ℕ} {c : Code} → Closed s xs c → WellFormed c
+  pub closed-formed : {s : Script} {xs : List ℕ} {c : Code} → Closed s xs c → WellFormed c
   closed-formed closed-lit = formed-lit
   closed-formed (closed-ref h) = formed-ref
   closed-formed (closed-fn d) = formed-fn (closed-formed d)

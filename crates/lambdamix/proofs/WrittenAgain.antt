@@ -21,7 +21,7 @@ use Rattle.lambdamix.proofs.Written.{Closed, AllClosed, closed-lit, clo
 
 -- scoped code is closed
 mutual
-  scoped-closed : {s : Script} {N : ℕ} {O : List ℕ} {c : Code} → Scoped s N O c → Closed s O c
+  pub scoped-closed : {s : Script} {N : ℕ} {O : List ℕ} {c : Code} → Scoped s N O c → Closed s O c
   scoped-closed lit-scoped = closed-lit
   scoped-closed (input-scoped i) = closed-ref (inl i)
   scoped-closed {O} (open-scoped {x} g) = closed-ref (inr (occurs-member x O (omega (arith, g .times))))

@@ -75,12 +75,12 @@ fn try_lent(
     }
 }
 
-// The length of a column.
-fn places(record: &[u8], at: usize) -> u16
-    ensures { λ r. ⌜ r ≤ 40 ⌝ }
+// The length of a column, which has a place for `most`.
+fn places(record: &[u8], at: usize, most: u16) -> u16
+    ensures { λ r. ⌜ r ≤ most ⌝ }
 {
     let n = column::at8(record, at) as u16;
-    if n <= 40 {
+    if n <= most {
         return n;
     }
     0
@@ -92,9 +92,9 @@ pub(crate) fn try_call(k: usize, record: &[u8]) {
     let mut high = [0i32; PLACES];
     let mut grade = [0i32; PLACES];
     let mut space = [0u8; ROOM];
-    let lows = places(record, 6);
-    let highs = places(record, 7);
-    let grades = places(record, 8);
+    let lows = places(record, 6, PLACES as u16);
+    let highs = places(record, 7, PLACES as u16);
+    let grades = places(record, 8, PLACES as u16);
     read_settings(record, 9, lows, &mut low);
     read_settings(record, 9 + 4 * lows, highs, &mut high);
     read_settings(record, 9 + 4 * (lows + highs), grades, &mut grade);

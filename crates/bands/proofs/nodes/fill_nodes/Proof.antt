@@ -28,7 +28,7 @@ node-requires : tie.Need-node-requires Inv-loop μ-loop
 unfolding bandNodes
 node-requires c κs =
     let at-pre = c .before .before .before .before .before .before .pre in
-    record { any = at-pre .0 .any; few = at-pre .0 .few; bound = omega (arith, c .loop-test .taken) }
+    (at-pre .0, omega (arith, c .loop-test .taken))
 
 loop-again : tie.Need-loop-again Inv-loop μ-loop
 unfolding bandNodes
@@ -39,7 +39,8 @@ loop-again c =
     .before .loop-test in
     let at-node = c .before .before .before .before .before .before .before .before .before .before .before .before .before .before .before .node in
     let at-put-node = c .before .before .before .before .before .before .before .before .before .put-node in
-    fill-goes-on _ _ _ _ _ _ _ (at-loop .inv) (at-loop-test .taken) refl (at-node .ensures) (at-put-node .ensures)
+    let at-loop = at-loop in let at-loop-test = at-loop-test in let at-node = at-node in let at-put-node = at-put-node in fill-goes-on _ _ _ _ _ _ _
+    (at-loop .inv) (at-loop-test .taken) refl (at-node .ensures) (at-put-node .ensures)
 
 add-i : tie.Need-add-i Inv-loop μ-loop
 unfolding maxRows
@@ -48,13 +49,13 @@ add-i c =
     .before .before .before .before .before .before .pre in
     let at-loop-test = c .before .before .before .before .before .before .before .before .before .before .before .before .before .before .before
     .before .loop-test in
-    omega (arith, at-pre .0 .few, at-loop-test .taken)
+    let at-pre = at-pre in let at-loop-test = at-loop-test in omega (arith, at-pre .0 .few, at-loop-test .taken)
 
 loop-less : tie.Need-loop-less Inv-loop μ-loop
 loop-less c =
     let at-loop-test = c .before .before .before .before .before .before .before .before .before .before .before .before .before .before .before
     .before .loop-test in
-    omega (arith, at-loop-test .taken)
+    let at-loop-test = at-loop-test in omega (arith, at-loop-test .taken)
 
 loop-holds : tie.Need-loop-holds Inv-loop μ-loop
 loop-holds c = fill-begins _ _ _ _ _ _ _ (c .before .before .before .before .pre .1)

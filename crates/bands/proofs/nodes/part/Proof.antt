@@ -8,31 +8,31 @@ use Rattle.bands.proofs.Numbering.{input-part, low-part, less-part, gra
 use Rattle.bands.proofs.nodes.part.Statement.{statement}
 use Rattle.bands.proofs.nodes.part.Tie as tie
 
-sub-step : tie.Need-sub-step
-sub-step c = omega (arith, c .before .pre .before (omega (arith, c .match .keys3)), c .match .keys3)
+sub-t7 : tie.Need-sub-t7
+sub-t7 c = omega (arith, c .before .before .pre .before (omega (arith, c .before .match .keys3)), c .before .match .keys3)
 
-sub-step-2 : tie.Need-sub-step-2
-sub-step-2 c = omega (arith, c .before .pre .before (omega (arith, c .match .keys3)), c .match .keys3)
+sub-t9 : tie.Need-sub-t9
+sub-t9 c = omega (arith, c .before .before .before .pre .before (omega (arith, c .before .before .match .keys3)), c .before .before .match .keys3)
 
-sub-step-3 : tie.Need-sub-step-3
-sub-step-3 c = let rest = c .match .rest in lift-deep (c .before .pre) (rest .0 .0 .0 .1) (rest .0 .0 .1) (rest .1)
+sub-t11 : tie.Need-sub-t11
+sub-t11 c = let rest = c .before .match .rest in lift-deep (c .before .before .pre) (rest .0 .0 .0 .1) (rest .0 .0 .1) (rest .1)
 
 returns : tie.Need-returns
-returns c = input-part _ _ _ _ (c .before .match .keys1) (c .step .ensures)
+returns c = input-part _ _ _ _ (c .before .match .keys1) (c .variable .ensures)
 
 returns-2 : tie.Need-returns-2
 returns-2 c = low-part _ _ _ _ (c .before .match .keys2) (c .constant .ensures ∙ ap (λ (z : ℤ). node 0 0 0 0 z) (toZ-ofZ (c .before .before .fits .low)))
 
 returns-3 : tie.Need-returns-3
-returns-3 c = less-part _ _ _ _ (c .before .match .keys3) (c .step2 .ensures)
+returns-3 c = less-part _ _ _ _ (c .before .before .before .match .keys3) (c .less .ensures)
 
 returns-4 : tie.Need-returns-4
 returns-4 c = grade-part _ _ _ _ (c .before .match .keys4) (c .constant2 .ensures ∙ ap (λ (z : ℤ). node 0 0 0 0 z) (toZ-ofZ (c .before .before .fits .grade)))
 
 returns-5 : tie.Need-returns-5
 returns-5 c =
-    let rest = c .before .match .rest in
-    lift-part _ _ _ _ (rest .0 .0 .0 .1) (rest .0 .0 .1) (rest .0 .1) (rest .1) (c .step3 .ensures)
+    let rest = c .before .before .match .rest in
+    lift-part _ _ _ _ (rest .0 .0 .0 .1) (rest .0 .0 .1) (rest .0 .1) (rest .1) (c .lift .ensures)
 
 pub part-spec : {M : Type 1} → statement M
 part-spec =
@@ -40,11 +40,11 @@ part-spec =
     (tie.spec
     (λ c κs. tt)
     (λ c κs. tt)
-    sub-step
-    sub-step-2
+    sub-t7
+    sub-t9
     (λ c κs. tt)
     (λ c κs. tt)
-    sub-step-3
+    sub-t11
     (λ c κs. tt)
     returns
     returns-2
