@@ -1,5 +1,7 @@
 // Bands for coin sensors: rows of low, high and grade become a script that grades every reading by its row. It knows the script maker by its
 // contracts: the script is written by the writer's entry.
+#![tactic(auto)]
+
 pub mod maker;
 mod nodes;
 mod rows;

@@ -1,5 +1,7 @@
 // The script maker as a program: it reads all of standard input and prints the answer. The first 65,536 bytes decide it
 // (`longer_input` of the crate `respond`); what follows is read and dropped.
+#![tactic(auto)]
+
 use respond::answer::respond;
 use script::Writing;
 use standard::input::read_input;

@@ -1,5 +1,7 @@
 // The plain run as a program: it reads all of standard input, a script file and a number for every input, and prints the answer. The first 65,536 bytes
 // decide it (`longer_input` of the crate `report`); what follows is read and dropped.
+#![tactic(auto)]
+
 use report::answer::respond;
 use script::Writing;
 use standard::input::read_input;

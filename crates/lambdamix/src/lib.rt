@@ -1,5 +1,7 @@
 // The Rattle part of the calculus: the names that its definitions share with the code above it, and the
 // exact arithmetic of the six operators, and the numbers of stops.
+#![tactic(auto)]
+
 pub mod arithmetic;
 pub mod stops;
 

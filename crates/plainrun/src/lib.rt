@@ -1,4 +1,6 @@
 // The plain run of a script: marks and lifts dropped, on a number for every input. It knows neither the checker nor residual code.
+#![tactic(auto)]
+
 pub mod run;
 
 use script::Refusal;

@@ -1,2 +1,4 @@
 // The listing of a script in lent tables, refused or written.
+#![tactic(auto)]
+
 pub mod list;

@@ -1,4 +1,6 @@
 // Residual code in the code store, the paper's finished code: the tree that a cell stands for, its fields and its count; and the reply that tells of it.
+#![tactic(auto)]
+
 pub mod code;
 pub mod limits;
 pub mod size;

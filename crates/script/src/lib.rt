@@ -1,4 +1,6 @@
 // The script: its limits, the columns of its tables, the places of its records, the table of kinds, and nodes in words.
+#![tactic(auto)]
+
 pub mod column;
 pub mod kinds;
 pub mod limits;

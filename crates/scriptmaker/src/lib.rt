@@ -1,5 +1,7 @@
 // Reading, writing, checking, making, the bare run, the plain run, the listing and bands for callers in C and Rust: functions with C's names and structs
 // over the proved entries. A slice is passed as a pointer and a length, and a lent slice overlaps no other.
+#![tactic(auto)]
+
 pub mod check;
 pub mod coins;
 pub mod list;

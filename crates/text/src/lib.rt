@@ -1,4 +1,6 @@
 // Texts that are written into what remains of a lent output: letters, words and numbers.
+#![tactic(auto)]
+
 pub mod decimals;
 pub mod parts;
 

@@ -1,6 +1,8 @@
 // Runs the packed files of data/ through the proved functions and prints each reply, behind its number in the file: scripts.bin through
 // reader and checker, makes.bin through the maker, inputs.bin through the answer of `benchmake`, runs.bin through the plain run, readings.bin through
 // the answer of `benchrun`, bands.bin through bands, with the checker and the plain run on what they make. Each record stands behind its length in four bytes.
+#![tactic(auto)]
+
 mod answers;
 mod coins;
 mod makes;
