@@ -7,7 +7,7 @@ mod nodes;
 mod rows;
 
 // A node of the script, as the columns of a script hold it.
-#[derive(Drop)]
+#[derive(Clone, Copy)]
 pub struct BandNode {
     pub kind: u8,
     pub a: u16,

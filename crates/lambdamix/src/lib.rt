@@ -7,7 +7,7 @@ pub mod stops;
 
 // What a field of a node holds: nothing, a variable's name, the name that a function binds, a child's number, the
 // number of a parameter's type, or an operator. The first variant is also what a field past the table holds.
-#[derive(Drop)]
+#[derive(Clone, Copy)]
 pub enum Use {
     Nothing,
     Name,
@@ -18,7 +18,7 @@ pub enum Use {
 }
 
 // The operators 0 to 5 of the paper, in its order: + - * / = <.
-#[derive(Drop)]
+#[derive(Clone, Copy)]
 pub enum Operator {
     Add,
     Subtract,
@@ -30,7 +30,7 @@ pub enum Operator {
 
 // Why a run stops: its fuel is spent, it is too deep, a result is above the range or below it, a divisor is 0, or a value is of another sort than
 // its rule wants.
-#[derive(Drop)]
+#[derive(Clone, Copy)]
 pub enum Reason {
     FuelSpent,
     TooDeep,
@@ -41,14 +41,14 @@ pub enum Reason {
 }
 
 // What a run of the maker is: making, or the bare run, which leaves out refusals 9 to 11.
-#[derive(Drop)]
+#[derive(Clone, Copy)]
 pub enum Mode {
     Making,
     BareRun,
 }
 
 // What an operation gives: a number of 32 bits, or the reason for a stop.
-#[derive(Drop)]
+#[derive(Clone, Copy)]
 pub enum Outcome {
     Value(i32),
     AboveRange,

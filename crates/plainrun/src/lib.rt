@@ -6,7 +6,7 @@ pub mod run;
 use script::Refusal;
 
 // The reply of a plain run, with its steps: the number that it gives, that it gives a function, or number and place where it does not finish.
-#[derive(Drop)]
+#[derive(Clone, Copy)]
 pub enum Reply {
     Number(i32, u16),
     Function(u16),

@@ -8,7 +8,7 @@ pub mod size;
 use script::Refusal;
 
 // The reply to a call: the steps and the count of written nodes of finished code; or number and place, with the steps.
-#[derive(Drop)]
+#[derive(Clone, Copy)]
 pub enum Reply {
     Made(u16, u16),
     Unmade(Refusal, u16),

@@ -11,21 +11,21 @@ pub mod word;
 use lambdamix::Use;
 
 // A node's number, a name and a type's number have 16 bits each, and a place that wants one never takes another.
-#[derive(Drop)]
+#[derive(Clone, Copy)]
 pub struct NodeNumber(pub u16);
 
-#[derive(Drop)]
+#[derive(Clone, Copy)]
 pub struct Name(pub u16);
 
-#[derive(Drop)]
+#[derive(Clone, Copy)]
 pub struct TypeNumber(pub u16);
 
 // A row of the table of kinds: the uses of the fields a, b and c.
-#[derive(Drop)]
+#[derive(Clone, Copy)]
 pub struct Row(pub Use, pub Use, pub Use);
 
 // How many types, inputs and nodes a script has.
-#[derive(Drop)]
+#[derive(Clone, Copy)]
 pub struct Counts {
     pub types: u16,
     pub inputs: u16,
@@ -33,35 +33,35 @@ pub struct Counts {
 }
 
 // The paper's number and place of a reply without code.
-#[derive(Drop)]
+#[derive(Clone, Copy)]
 pub struct Refusal {
     pub number: u8,
     pub place: usize,
 }
 
 // Whether a check refuses.
-#[derive(Drop)]
+#[derive(Clone, Copy)]
 pub enum Verdict {
     Passed,
     Refused(Refusal),
 }
 
 // The first place at which a test fails.
-#[derive(Drop)]
+#[derive(Clone, Copy)]
 pub enum Found {
     Nowhere,
     At(usize),
 }
 
 // The reader's answer.
-#[derive(Drop)]
+#[derive(Clone, Copy)]
 pub enum Reading {
     Read(Counts),
     Refused(Refusal),
 }
 
 // The writer's answer: how many bytes it wrote.
-#[derive(Drop)]
+#[derive(Clone, Copy)]
 pub enum Writing {
     Written(usize),
     Refused(Refusal),

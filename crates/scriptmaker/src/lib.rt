@@ -15,7 +15,7 @@ ghost use Rattle.scriptmaker.specs.Calls.{counts_of};
 
 // How many types, inputs and nodes a script has.
 #[repr(C)]
-#[derive(Drop)]
+#[derive(Clone, Copy)]
 pub struct Counts {
     pub types: u16,
     pub inputs: u16,
@@ -24,7 +24,7 @@ pub struct Counts {
 
 // Number and place of the paper; 0 and 0 after a success. So it is in each reply below.
 #[repr(C)]
-#[derive(Drop)]
+#[derive(Clone, Copy)]
 pub struct CheckReply {
     pub number: u8,
     pub place: usize,
@@ -32,7 +32,7 @@ pub struct CheckReply {
 
 // The counts of the file that was read.
 #[repr(C)]
-#[derive(Drop)]
+#[derive(Clone, Copy)]
 pub struct ReadReply {
     pub number: u8,
     pub place: usize,
@@ -41,7 +41,7 @@ pub struct ReadReply {
 
 // The length of the file or the listing that was written.
 #[repr(C)]
-#[derive(Drop)]
+#[derive(Clone, Copy)]
 pub struct WriteReply {
     pub number: u8,
     pub place: usize,
@@ -50,7 +50,7 @@ pub struct WriteReply {
 
 // The steps of the run, and how many nodes the written code has.
 #[repr(C)]
-#[derive(Drop)]
+#[derive(Clone, Copy)]
 pub struct MakeReply {
     pub number: u8,
     pub place: usize,
@@ -60,7 +60,7 @@ pub struct MakeReply {
 
 // The steps of the plain run, 1 if it gave a function, and the number that it gave.
 #[repr(C)]
-#[derive(Drop)]
+#[derive(Clone, Copy)]
 pub struct RunReply {
     pub number: u8,
     pub place: usize,

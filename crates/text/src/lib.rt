@@ -5,7 +5,7 @@ pub mod decimals;
 pub mod parts;
 
 // What the writing of a number tells: how many bytes its text has, and how many rounds all loops took for it.
-#[derive(Drop)]
+#[derive(Clone, Copy)]
 pub struct Decimal {
     pub length: usize,
     pub rounds: usize,

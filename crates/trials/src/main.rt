@@ -12,7 +12,7 @@ mod scripts;
 mod task;
 
 // Which functions the records of a file go through.
-#[derive(Drop)]
+#[derive(Clone, Copy)]
 enum Kind {
     Scripts,
     Makes,

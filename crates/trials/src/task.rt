@@ -8,7 +8,7 @@ use script::{Reading, Verdict};
 use specializer::make::make;
 
 // What a script that was read goes through: the checker, or the maker.
-#[derive(Drop)]
+#[derive(Clone, Copy)]
 pub(crate) enum Task {
     Check,
     Make(Mode),
