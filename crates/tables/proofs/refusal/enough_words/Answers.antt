@@ -6,8 +6,7 @@ use native.Mathlib.Omega.{arith}
 use lib.Dec.{leb}
 use borrow.Author.Tests.{le-leb, lt-leb, leb-true, leb-false}
 use Rattle.lambdamix.specs.Limits.{max_nodes}
-use Rattle.tables.proofs.refusal.enough_words.Statement.{statement}
-use Rattle.tables.proofs.refusal.enough_words.Tie as tie
+use Rattle.tables.proofs.refusal.enough_words.Goals as goal
 
 fewer : (n w : ℕ) → w < max_nodes → leb n w ≡ leb (min n max_nodes) w
 unfolding max_nodes
@@ -17,13 +16,10 @@ fewer n w h = by (leb n w) refl
     by true e = sym (le-leb (min n max_nodes) w (omega (arith, leb-true n w e)))
     by false e = sym (lt-leb (min n max_nodes) w (omega (arith, leb-false n w e)))
 
-returns : tie.Need-returns
+pub returns-then-words-ge-MAX_NODES : goal.returns-then-words-ge-MAX_NODES
 unfolding max_nodes
-returns c = sym (le-leb (min c.before.args.nodes max_nodes) c.before.args.words (omega (arith, c.if1.true)))
+returns-then-words-ge-MAX_NODES c = sym (le-leb (min c.args.nodes max_nodes) c.args.words (omega (arith, c.if-words-ge-MAX_NODES.true)))
 
-returns-2 : tie.Need-returns-2
+pub returns : goal.returns
 unfolding max_nodes
-returns-2 c = fewer c.before.args.nodes c.before.args.words (omega (arith, c.if1.false))
-
-pub enough-words-spec : {M : Type 1} → statement M
-enough-words-spec = tie.close (tie.spec returns returns-2)
+returns c = fewer c.args.nodes c.args.words (omega (arith, c.if-words-ge-MAX_NODES.false))
