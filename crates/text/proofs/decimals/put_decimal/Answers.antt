@@ -1,5 +1,4 @@
 -- `text::decimals::put_decimal` meets its contract: the sign apart, by the bits. Assumes nothing.
-use borrow.Author.Rules.{rules}
 use native.Mathlib.Omega.{arith}
 use mathlib.Core.Path.{◌∙◌, ap}
 use mir.Syntax.{w32}

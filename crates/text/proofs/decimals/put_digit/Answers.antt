@@ -1,5 +1,4 @@
 -- `text::decimals::put_digit` meets its contract. Assumes nothing.
-use borrow.Author.Rules.{rules}
 use native.Mathlib.Omega.{arith}
 use Rattle.text.specs.Drawing.{passed_over, stands}
 use Rattle.text.proofs.decimals.put_digit.Goals as goal

@@ -1,5 +1,4 @@
 -- `text::decimals::put_digits` meets its contract: five digits or ten are drawn. Assumes nothing.
-use borrow.Author.Rules.{rules}
 use native.Mathlib.Omega.{arith}
 use Rattle.text.specs.Decimals.{most_rounds}
 use Rattle.text.proofs.Rounds.{five_digits, ten_digits, put_number}

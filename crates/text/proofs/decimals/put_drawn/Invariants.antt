@@ -1,12 +1,10 @@
 -- `text::decimals::put_drawn` meets its contract. The loop's invariant: the digits passed stand, and the fraction of the rest is held. The measure is the
 -- rounds that are left. Assumes nothing.
-use borrow.Author.Rules.{rules}
 use Prim.Native.Nat.{ℕ, ◌*◌, ◌-◌, ◌≤◌, ◌<◌}
-use mathlib.Core.Path.{◌≡◌, ◌∙◌}
-use native.Mathlib.Omega.{arith}
+use mathlib.Core.Path.{◌≡◌}
 use lib.ListN.{length}
 use Rattle.text.specs.Drawing.{one, Fraction}
-use Rattle.text.proofs.Rounds.{Standing, none_stands, round_stands, next_length, all_stand}
+use Rattle.text.proofs.Rounds.{Standing}
 use Rattle.text.proofs.decimals.put_drawn.Given as goal
 
 abbrev pub invariant-loop-round : goal.invariant-loop-round

@@ -1,5 +1,4 @@
 -- `text::decimals::put_prefixed` meets its contract: the digits stand behind the letter. Assumes nothing.
-use borrow.Author.Rules.{rules}
 use native.Mathlib.Omega.{arith}
 use Rattle.text.proofs.Digits.{digits_within}
 use Rattle.text.proofs.Writing.{placed, put_behind}

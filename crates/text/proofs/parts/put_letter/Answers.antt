@@ -1,5 +1,4 @@
 -- `text::parts::put_letter` meets its contract. Assumes nothing.
-use borrow.Author.Rules.{rules}
 use Rattle.text.proofs.Writing.{put_none, put_last}
 use Rattle.text.proofs.parts.put_letter.Goals as goal
 

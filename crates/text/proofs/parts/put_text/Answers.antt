@@ -1,11 +1,8 @@
 -- `text::parts::put_text` meets its contract. The loop's invariant: the bytes passed stand at the front. The measure is what
 -- is left of the text. Assumes nothing.
 use borrow.Author.Rules.{rules}
-use Prim.Native.Nat.{◌-◌, ◌≤◌}
-use mathlib.Core.Path.{◌≡◌, ◌∙◌}
-use lib.ListN.{length, take}
-use Rattle.text.specs.Places.{Put}
-use Rattle.text.proofs.Writing.{put_none, put_next, put_whole}
+use mathlib.Core.Path.{◌∙◌}
+use Rattle.text.proofs.Writing.{put_none, put_next}
 use Rattle.text.proofs.parts.put_text.Goals as goal
 
 pub loop-i-init : goal.loop-i-init
