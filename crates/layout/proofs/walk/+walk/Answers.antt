@@ -1,4 +1,5 @@
 -- The walk meets its contracts. Assumes nothing.
+use borrow.Author.Rules.{rules}
 use mathlib.Core.Path.{refl}
 use native.Mathlib.Omega.{arith}
 use mir.Syntax.{w32}
@@ -171,7 +172,7 @@ node-returns-in-12 t c =
 pub node-returns-in_default : goal.node-returns-in_default
 unfolding Other
 node-returns-in_default t c =
-    value_placed c.args.inputs c.args.nodes.now.now c.args.i.0 c.kind.result (node_kind c.kind.ensures c.node_word-w.ensures) refl (past_value _ c.in_default.in_default-own.rest) (past_uses _ c.in_default.in_default-own.rest)
+    value_placed c.args.inputs c.args.nodes.now.now c.args.i.0 c.kind.result (node_kind c.kind.ensures c.node_word-w.ensures) refl (past_value _ (search rules)) (past_uses _ (search rules))
     (rw (
       to_z-of_z {w = w32} (record { sfits = c.value-in_default.type_inv }),
       c.value-in_default.ensures,

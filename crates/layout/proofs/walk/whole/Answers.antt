@@ -1,6 +1,5 @@
 -- `layout::walk::whole` meets its contract. Assumes nothing.
 use Rattle.text.proofs.Writing.{join}
-use borrow.Author.Rules.{rules}
 use Rattle.layout.proofs.walk.whole.Goals as goal
 
 pub returns : goal.returns

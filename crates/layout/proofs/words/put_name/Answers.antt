@@ -1,5 +1,4 @@
 -- `layout::words::put_name` meets its contract. Assumes nothing.
-use borrow.Author.Rules.{rules}
 use borrow.Author.Tests.{lt-ltb, le-ltb}
 use Rattle.lambdamix.specs.Text.{ascii}
 use Rattle.lambdamix.specs.Listing.{name_text, name_by}

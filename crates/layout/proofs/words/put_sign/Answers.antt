@@ -1,5 +1,4 @@
 -- `layout::words::put_sign` meets its contract. Assumes nothing.
-use borrow.Author.Rules.{rules}
 use native.Mathlib.Omega.{arith}
 use Rattle.text.proofs.Writing.{at_front, join}
 use Rattle.layout.proofs.words.put_sign.Goals as goal

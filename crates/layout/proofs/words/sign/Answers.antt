@@ -5,7 +5,6 @@ use Prim.Native.Nat.{ℕ}
 use lib.ListN.{get_or-eq_default}
 use Rattle.lambdamix.specs.Text.{ascii}
 use Rattle.layout.proofs.WordLaws.{sign_text, in_list}
-use borrow.Author.Rules.{rules}
 use Rattle.layout.proofs.words.sign.Goals as goal
 
 pub returns-then-o-ge6 : goal.returns-then-o-ge6
