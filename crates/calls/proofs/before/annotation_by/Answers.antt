@@ -10,8 +10,7 @@ use Rattle.script.specs.Verdicts.{refusal_of}
 use Rattle.script.proofs.ReplyLaws.{tells_refusal}
 use Rattle.lambdamix.specs.Specializing.{annotation_by}
 use borrow.Author.Rules.{rules}
-use Rattle.calls.proofs.before.annotation_by.Statement.{statement}
-use Rattle.calls.proofs.before.annotation_by.Tie as tie
+use Rattle.calls.proofs.before.annotation_by.Goals as goal
 
 bare-passes : (b : Mode) (s : Script) → b ≡ BareRun → none ≡ annotation_by b s
 unfolding annotation_by
@@ -21,14 +20,11 @@ checked : (b : Mode) (s : Script) {r : Option Refusal} → b ≡ Making → r �
 unfolding annotation_by
 checked b s e h = rw e h
 
-returns : tie.Need-returns
+pub returns-in-BareRun : goal.returns-in-BareRun
 unfolding refusal_of
-returns c = λ ks xs ys zs vs ok p. bare-passes _ _ (search c.enum_told.given.1)
+returns-in-BareRun c = λ ks xs ys zs vs ok p. bare-passes _ _ (search c.in-BareRun.is)
 
-returns-2 : tie.Need-returns-2
-returns-2 c =
+pub returns-in-Making : goal.returns-in-Making
+returns-in-Making c =
     λ ks xs ys zs vs ok p.
-    checked _ _ (search c.before.enum-told2.given.1) (tells_refusal (c.annotation-refusal.ensures.reply ks xs ys zs vs ok p))
-
-pub annotation-by-spec : {M : Type 1} → statement M
-annotation-by-spec = tie.close (tie.spec (λ c. search rules) (λ c. search rules) (λ c κs. search rules) returns returns-2)
+    checked _ _ (search c.in-Making.is) (tells_refusal (c.annotation_refusal.ensures.reply ks xs ys zs vs ok p))
