@@ -22,7 +22,7 @@ use Rattle.lambdamix.specs.PlainRun.{a_number, numbers_from, plain_job, plain_re
 use Rattle.lambdamix.specs.PlainRules.{Evaluates, e_const, e_var, e_if, e_op, EvaluatesWith, told_number}
 use Rattle.lambdamix.specs.Refusal.{or_else, refused_unless}
 use Rattle.lambdamix.specs.Checker.{annotation_refusal}
-use Rattle.lambdamix.specs.Code.{written}
+use Rattle.lambdamix.specs.Code.{written, last_node, lit}
 use Rattle.lambdamix.proofs.Erasure.{plain_job_lem}
 use Rattle.lambdamix.proofs.PlainRun.{plain_deeper, evaluated_by_rules}
 use Rattle.lambdamix.proofs.WrittenTree.{written_term, written_tree}
@@ -42,7 +42,7 @@ use Rattle.script.specs.Replies.{head_counts}
 use Rattle.script.proofs.Numbered.{length_numbered}
 use Rattle.script.proofs.RefusalLaws.{neither}
 use Rattle.bands.specs.Rows.{Band, band_at, max_rows, rows_refusal, FallsIn, BandFits}
-use Rattle.bands.specs.BandScript.{row_part, band_code, one_input, band_script, band_nodes, band_length}
+use Rattle.bands.specs.BandScript.{row_part, input_below, band_code, one_input, band_script, band_nodes, band_length}
 use Rattle.bands.specs.Calls.{Columns, row_in, rows_in, band_bytes, columns_refusal}
 use Rattle.bands.specs.Grading.{band_steps, band_depth, GradesAs, band_file, HoldFile, RunGives, GradesByRows}
 use Rattle.bands.proofs.RowTests.{rows_length, band_at_lem}
@@ -91,7 +91,8 @@ module _ (z : ℤ) where
   unfolding erase static_form child_at written_term row_part band_at steps_to branch branch_by
   part_evaluates s last_row = e_const
   part_evaluates s (this_row e) = e_if (below_evaluates e) e_const
-  part_evaluates s (later_row e p) = e_if (below_evaluates e) (part_evaluates _ p)
+  part_evaluates s (later_row {r = r} {q = q} {rows = rows} {k = k} e p) =
+      e_if (below_evaluates e) (part_evaluates (suc (last_node (suc (last_node s (input_below q.low))) (lit r.grade))) p)
 
 -- a reading of row k stands to the lows as that row wants it
 selects :

@@ -1,0 +1,26 @@
+-- `bands::maker::write_script` meets its contract: by the writer's entry. Assumes nothing.
+use borrow.Author.Rules.{rules}
+use mathlib.Core.Path.{refl}
+use native.Mathlib.Omega.{arith}
+use Rattle.bands.specs.Rows.{max_rows}
+use Rattle.bands.specs.BandScript.{band_nodes}
+use Rattle.bands.proofs.Writing.{script_written, long_by}
+use Rattle.bands.proofs.maker.write_script.Goals as goal
+
+pub fill_nodes-requires : goal.fill_nodes-requires
+fill_nodes-requires c =
+    record {
+      row_count = c.requires.count;
+      long = long_by c.requires.count refl refl refl refl refl;
+    }
+
+pub overflow_mul-n : goal.overflow_mul-n
+unfolding max_rows
+overflow_mul-n c = omega (arith, c.requires.count.few)
+
+pub returns : goal.returns
+unfolding band_nodes
+returns c =
+    script_written _ _ c.requires c.fill_nodes.ensures
+    (long_by c.requires.count c.fill_nodes.kept.1.1.1.1.0 c.fill_nodes.kept.1.1.1.1.1.0 c.fill_nodes.kept.1.1.1.1.1.1.0 c.fill_nodes.kept.1.1.1.1.1.1.1.0 c.fill_nodes.kept.1.1.1.1.1.1.1.1.0)
+    refl c.write.ensures
