@@ -42,7 +42,7 @@ module _ {A : Type 0} {m : ℕ} {x : Checked A} (p : TellsFault m x) where
   fault_alone b =
       record {
         fault = λ h. rw (p.fault h);
-        no_fault = λ h. elim (p.no_fault h) [ right a ↦ right (a, b) ];
+        no_fault = λ h. elim (p.no_fault h) as (λ y _. Right (both_typed y (typed b))) [ right a ↦ right (a, b) ];
       }
 
 pub fault_gathered : {m : ℕ} {x : Checked (Ty × List Ty)} → TellsFault m x → TellsFault m (gather x)
@@ -50,7 +50,7 @@ unfolding gather
 fault_gathered p =
     record {
       fault = λ h. rw (p.fault h);
-      no_fault = λ h. elim (p.no_fault h) [ right a ↦ right _ ];
+      no_fault = λ h. elim (p.no_fault h) as (λ y _. Right (gather y)) [ right a ↦ right _ ];
     }
 
 -- an answer that is no fault, behind another or before it, tells nothing
@@ -94,7 +94,7 @@ module _ {A B : Type 0} {e f : ℕ} {x : Checked A} {y : Checked B} (p : TellsFa
   first_fault : e < type_base → type_base ≤ f → TellsFault (lowest e f) (both_typed x y)
   unfolding lowest both_typed
   first_fault h k =
-      elim (q.no_fault k) [
+      elim (q.no_fault k) as (λ z _. TellsFault (lowest e f) (both_typed x z)) [
         | right b ↦ rw (le-leb (e / fault_limit) (f / fault_limit) (omega arith)) (record {
           fault = λ _. rw (p.fault h);
           no_fault = λ m. let
@@ -105,7 +105,7 @@ module _ {A B : Type 0} {e f : ℕ} {x : Checked A} {y : Checked B} (p : TellsFa
   second_fault : type_base ≤ e → f < type_base → TellsFault (lowest e f) (both_typed x y)
   unfolding lowest both_typed
   second_fault h k =
-      elim (p.no_fault h) [
+      elim (p.no_fault h) as (λ z _. TellsFault (lowest e f) (both_typed z y)) [
         | right a ↦ rw (lt-leb (e / fault_limit) (f / fault_limit) (omega arith)) (record {
           fault = λ _. rw (q.fault k);
           no_fault = λ m. let
@@ -117,8 +117,8 @@ module _ {A B : Type 0} {e f : ℕ} {x : Checked A} {y : Checked B} (p : TellsFa
   unfolding lowest both_typed
   no_faults h k =
       let l : type_base ≤ lowest e f = one_of (λ m. type_base ≤ m) (leb (e / fault_limit) (f / fault_limit)) e f h k in
-      elim (p.no_fault h) [
-        | right a ↦ elim (q.no_fault k) [
+      elim (p.no_fault h) as (λ z _. TellsFault (lowest e f) (both_typed z y)) [
+        | right a ↦ elim (q.no_fault k) as (λ z _. TellsFault (lowest e f) (both_typed (typed a) z)) [
           | right b ↦ record { fault = λ m. let z : ⊥ = omega arith in absurd z; no_fault = λ _. right (a, b) }
         ]
       ]

@@ -57,7 +57,7 @@ pub fn head_at(out: &mut [u8], at: usize, n: Counts)
 }
 
 fn type_at(out: &mut [u8], at: usize, parameter: TypeNumber, res: TypeNumber)
-    ensures* { λ r. ⌜ Put out.old at (type_bytes (record { parameter = parameter.0; result = res.0 })) out.new ⌝ }
+    ensures { Put out.old at (type_bytes (record { parameter = parameter.0; result = res.0 })) out.new }
 {
     if at < out.len() {
         pair_at(out, at, b'T', b'Y');

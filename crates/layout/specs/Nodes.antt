@@ -3,7 +3,6 @@
 -- proofs/Trees.antt. Assumes nothing.
 use Rattle.std.specs.Prelude.{ℕ, ◌-◌, Bool, true, false, List, [], ◌∷◌, ◌++◌, ℤ, get_or}
 use Rattle.lambdamix.specs.declared.Use.{Use}
-use Rattle.lambdamix.specs.declared.Use.TheVariants as Use
 use Rattle.lambdamix.specs.Falling.{falling, below}
 use Rattle.lambdamix.specs.Script.{Node, Step, step_of, constant, variable, lift, function, application, fix, conditional, operation}
 use Rattle.lambdamix.specs.Script.{dynamic_function, dynamic_application, dynamic_fix, dynamic_if, dynamic_operation}

@@ -18,7 +18,7 @@ use text::decimals::decimal_at;
 use text::parts::{further, least, letter_at, text_at};
 
 // The text of node i.
-#[cycle(bare_child_at_group_node_operation_spaced_at_worded)]
+#[cycle(walk)]
 fn node(nodes: &&[u64], inputs: u16, i: NodeNumber, out: &mut [u8]) -> usize
     ensures { Placed (words_text inputs nodes.now.now i.0) 0 out.old out.new result }
 {
@@ -42,7 +42,7 @@ fn node(nodes: &&[u64], inputs: u16, i: NodeNumber, out: &mut [u8]) -> usize
 }
 
 // The text of node i, which `w` holds, where its kind has no word (a variable, a lift): its first field by its use.
-#[cycle(bare_child_at_group_node_operation_spaced_at_worded)]
+#[cycle(walk)]
 fn bare(nodes: &&[u64], inputs: u16, i: NodeNumber, w: u64, row: Row, out: &mut [u8]) -> usize
     ensures { Placed (field_text inputs (child_text inputs nodes.now.now i.0) false row.0 (word_a w)) 0 out.old out.new result }
 {
@@ -59,7 +59,7 @@ fn bare(nodes: &&[u64], inputs: u16, i: NodeNumber, w: u64, row: Row, out: &mut 
 }
 
 // The text of node i, which `w` holds, in brackets: the opening one with its kind's word, then its fields.
-#[cycle(bare_child_at_group_node_operation_spaced_at_worded)]
+#[cycle(walk)]
 fn worded(
     nodes: &&[u64],
     inputs: u16,
@@ -76,7 +76,7 @@ fn worded(
 }
 
 // The same of an operation, whose word is its sign.
-#[cycle(bare_child_at_group_node_operation_spaced_at_worded)]
+#[cycle(walk)]
 fn operation(nodes: &&[u64], inputs: u16, i: NodeNumber, w: u64, row: Row, out: &mut [u8]) -> usize
     ensures { Placed ((40 ∷ operator_text (operator_of (word_c w))) ++ (fields_text inputs (child_text inputs nodes.now.now i.0) true row (word_a w) (word_b w) (word_c w) ++ (41 ∷ []))) 0 out.old out.new result }
 {
@@ -85,7 +85,7 @@ fn operation(nodes: &&[u64], inputs: u16, i: NodeNumber, w: u64, row: Row, out: 
 }
 
 // The fields of node i, which `w` holds, behind its kind's word and up to the closing bracket; gives the next place.
-#[cycle(bare_child_at_group_node_operation_spaced_at_worded)]
+#[cycle(walk)]
 fn group(
     nodes: &&[u64],
     inputs: u16,
@@ -107,7 +107,7 @@ fn group(
 }
 
 // A field of node i by its use, behind a space; gives the next place.
-#[cycle(bare_child_at_group_node_operation_spaced_at_worded)]
+#[cycle(walk)]
 fn spaced_at(
     nodes: &&[u64],
     inputs: u16,
@@ -139,7 +139,7 @@ fn spaced_at(
 }
 
 // A child of node i, whose number is below, in what remains from a place on; gives the next place.
-#[cycle(bare_child_at_group_node_operation_spaced_at_worded)]
+#[cycle(walk)]
 fn child_at(
     nodes: &&[u64],
     inputs: u16,

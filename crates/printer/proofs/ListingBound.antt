@@ -5,7 +5,7 @@ use mathlib.Core.Path.{◌≡◌, refl, sym, ap, ◌∙◌}
 use mathlib.Core.Bool.{Bool, true, false}
 use mathlib.Core.List.{List, [], ◌∷◌}
 use mathlib.Core.Option.{Option, none, some}
-use native.Mathlib.Nat.{add_mul, one-mul}
+use native.Mathlib.Nat.{add-mul, one-mul}
 use native.Mathlib.Omega.{arith}
 use lib.ListN.{length, get_or, length-append}
 use lib.Dec.{ltb, eqb}
@@ -92,13 +92,13 @@ module _ (g : ℕ → ℕ) (m : ℕ) where
   total_more : (is : List ℕ) → total (below (suc m) 0 g) is ≡ total (below m 0 g) is + occurrences m is * g m
   unfolding total occurrences
   total_more [] = omega arith
-  total_more (i ∷ is) = omega (arith, one_more i, total_more is, add_mul (one_if (eqb i m)) (occurrences m is) (g m))
+  total_more (i ∷ is) = omega (arith, one_more i, total_more is, add-mul (one_if (eqb i m)) (occurrences m is) (g m))
 
   child_total_more : (nds : List Node) → child_total (below (suc m) 0 g) nds ≡ child_total (below m 0 g) nds + uses nds m * g m
   unfolding child_total uses
   child_total_more [] = omega arith
   child_total_more (nd ∷ nds) =
-      omega (arith, total_more (children nd), child_total_more nds, add_mul (occurrences m (children nd)) (uses nds m) (g m))
+      omega (arith, total_more (children nd), child_total_more nds, add-mul (occurrences m (children nd)) (uses nds m) (g m))
 
 none_total : (g : ℕ → ℕ) (is : List ℕ) → total (below 0 0 g) is ≡ 0
 unfolding total below guarded

@@ -2,7 +2,7 @@
 use Prim.Native.Nat.{ℕ, zero, suc, ◌+◌, ◌*◌, ◌-◌, ◌/◌, ◌%◌, ◌^◌, ◌≤◌, ◌<◌}
 use mathlib.Core.Path.{◌≡◌, refl, sym, ap, ◌∙◌}
 use mathlib.Core.List.{List, [], ◌∷◌, ◌++◌}
-use native.Mathlib.Nat.{mul_assoc, mul_left_comm, add_mul, mul_le_mul, lt_of_mul-lt-mul_right, pow-succ'}
+use native.Mathlib.Nat.{mul_assoc, mul_left_comm, add-mul, mul-le-mul, lt_of_mul-lt-mul_right, pow-succ'}
 use native.Mathlib.Omega.{arith}
 use lib.ListN.{length, set, length-append}
 use Rattle.lambdamix.specs.Text.{digits}
@@ -67,9 +67,9 @@ drawn t k x f =
     let p : ℕ = 10 ^ suc k in
     let parts : t * p ≡ one * (d * p) + u * p =
     ap (λ (v : ℕ). v * p) (let e : t ≡ one * d + u = omega arith in e)
-    ∙ (add_mul (one * d) u p ∙ ap (λ (v : ℕ). v + u * p) (mul_assoc one d p)) in
+    ∙ (add-mul (one * d) u p ∙ ap (λ (v : ℕ). v + u * p) (mul_assoc one d p)) in
     let under : (u + 1) * p ≤ one * p =
-    mul_le_mul (let h : u + 1 ≤ one = omega arith in h) (let h : p ≤ p = omega arith in h) in
+    mul-le-mul (let h : u + 1 ≤ one = omega arith in h) (let h : p ≤ p = omega arith in h) in
     let within : x < 10 * p = rw (pow-succ' 10 (suc k)) at f.below in
     let again : u * 10 * 10 ^ k ≡ u * p = mul_assoc u 10 (10 ^ k) ∙ ap (λ (v : ℕ). u * v) (sym (pow-succ' 10 k)) in
     let fits : d * p ≤ x = omega (arith, f.high, parts) in
@@ -78,7 +78,7 @@ drawn t k x f =
       digit = lt_of_mul-lt-mul_right p (let h : d * p < 10 * p = omega arith in h);
       whole = omega arith;
       fraction = record {
-        below = omega (arith, f.low, parts, add_mul u 1 p);
+        below = omega (arith, f.low, parts, add-mul u 1 p);
         low = omega (arith, f.low, parts, again);
         high = omega (arith, f.high, parts, again);
       };
@@ -121,7 +121,7 @@ next_stands {x} {t} {k} s e =
         s.whole,
         g.whole,
         ap (λ (v : ℕ). s.first * v) (pow-succ' 10 (suc k)) ∙ mul_left_comm s.first 10 (10 ^ suc k),
-        add_mul (10 * s.first) d (10 ^ suc k) ∙ ap (λ (v : ℕ). v + d * 10 ^ suc k) (mul_assoc 10 s.first (10 ^ suc k)),
+        add-mul (10 * s.first) d (10 ^ suc k) ∙ ap (λ (v : ℕ). v + d * 10 ^ suc k) (mul_assoc 10 s.first (10 ^ suc k)),
       );
       fraction = g.fraction;
       put = put_next_digit s.first d g.digit s.put e;

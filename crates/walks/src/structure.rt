@@ -161,7 +161,7 @@ fn height_over(i: NodeNumber, p: u32) -> u32
 }
 
 // The height of node i's tree if no node of it is too high, else HIGHEST + 1 plus the lowest node that is.
-#[cycle(height_height_child_height_children_height_field_height_fields)]
+#[cycle(heights)]
 fn height(nodes: &&[u64], i: NodeNumber) -> u32
     ensures { Height result (height_at (columns_in nodes.now.now) i.0) (too_high_at (columns_in nodes.now.now) i.0) }
 {
@@ -170,7 +170,7 @@ fn height(nodes: &&[u64], i: NodeNumber) -> u32
 }
 
 // The children of node i, whose word is w, by the row of its kind.
-#[cycle(height_height_child_height_children_height_field_height_fields)]
+#[cycle(heights)]
 fn height_children(nodes: &&[u64], i: NodeNumber, w: u64) -> u32
     ensures { HeightOver (columns_in nodes.now.now) i.0 (word_children w) result }
 {
@@ -193,7 +193,7 @@ fn height_children(nodes: &&[u64], i: NodeNumber, w: u64) -> u32
 }
 
 // The fields that are children by a row.
-#[cycle(height_height_child_height_children_height_field_height_fields)]
+#[cycle(heights)]
 fn height_fields(nodes: &&[u64], i: NodeNumber, w: u64, row: Row) -> u32
     ensures { HeightOver (columns_in nodes.now.now) i.0 (row_children row (word_a w) (word_b w) (word_c w)) result }
 {
@@ -206,7 +206,7 @@ fn height_fields(nodes: &&[u64], i: NodeNumber, w: u64, row: Row) -> u32
 }
 
 // A field is walked where it is a child.
-#[cycle(height_height_child_height_children_height_field_height_fields)]
+#[cycle(heights)]
 fn height_field(nodes: &&[u64], i: NodeNumber, u: Use, f: u16) -> u32
     ensures { HeightOver (columns_in nodes.now.now) i.0 (kept_if (is_child u) f []) result }
 {
@@ -217,7 +217,7 @@ fn height_field(nodes: &&[u64], i: NodeNumber, u: Use, f: u16) -> u32
 }
 
 // A child of node i: one whose number is below is walked.
-#[cycle(height_height_child_height_children_height_field_height_fields)]
+#[cycle(heights)]
 fn height_child(nodes: &&[u64], i: NodeNumber, m: NodeNumber) -> u32
     ensures { Height result (below i.0 1 (height_at (columns_in nodes.now.now)) m.0) (below i.0 none (too_high_at (columns_in nodes.now.now)) m.0) }
 {
@@ -317,7 +317,7 @@ fn put_binder(names: &mut [u16; MAX_HEIGHT], depth: usize, u: Use, f: u16) -> us
 }
 
 // The lower of a place and the lowest unbound variable of node i's tree, by the row of its kind, if the tree has no more levels than are allowed.
-#[cycle(scope_scope_child_scope_field_scope_fields)]
+#[cycle(scopes)]
 fn scope(
     nodes: &&[u64],
     limits: u32,
@@ -350,7 +350,7 @@ fn scope(
 }
 
 // The fields by a row: a binder's name is around the children after it.
-#[cycle(scope_scope_child_scope_field_scope_fields)]
+#[cycle(scopes)]
 fn scope_fields(
     nodes: &&[u64],
     limits: u32,
@@ -376,7 +376,7 @@ fn scope_fields(
 }
 
 // A field by its use: a name is tested, a child is walked.
-#[cycle(scope_scope_child_scope_field_scope_fields)]
+#[cycle(scopes)]
 fn scope_field(
     nodes: &&[u64],
     limits: u32,
@@ -402,7 +402,7 @@ fn scope_field(
 }
 
 // A child of node i: where no level is allowed below i, the tree has too many; else a child whose number is below is walked.
-#[cycle(scope_scope_child_scope_field_scope_fields)]
+#[cycle(scopes)]
 fn scope_child(
     nodes: &&[u64],
     limits: u32,

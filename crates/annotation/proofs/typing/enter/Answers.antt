@@ -1,0 +1,10 @@
+-- `annotation::typing::enter` meets its contract: a binder goes on top, any other field is passed over. Assumes nothing.
+use borrow.Author.Rules.{rules}
+use Rattle.annotation.proofs.Recursion.{enter_binder, pass_over}
+use Rattle.annotation.proofs.typing.enter.Goals as goal
+
+pub returns-then-is_binder : goal.returns-then-is_binder
+returns-then-is_binder c = search enter_binder
+
+pub returns : goal.returns
+returns c = search pass_over

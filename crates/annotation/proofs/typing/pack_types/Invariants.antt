@@ -1,0 +1,13 @@
+-- `annotation::typing::pack_types` meets its contract: the first j words are packed; the measure is what is left. Assumes nothing.
+use borrow.Author.Rules.{rules}
+use Prim.Native.Nat.{◌-◌, ◌≤◌}
+use mathlib.Core.Path.{◌≡◌}
+use native.Mathlib.Omega.{arith}
+use Rattle.annotation.proofs.Filling.{Packing, none_packed, one_packed, all_packed}
+use Rattle.annotation.proofs.typing.pack_types.Given as goal
+
+abbrev pub invariant-loop-j : goal.invariant-loop-j
+invariant-loop-j l = (l.j ≤ l.count) × Packing l.parameters l.results l.initial.types l.types l.j
+
+abbrev pub decreases-loop-j : goal.decreases-loop-j
+decreases-loop-j l = l.count - l.j

@@ -1,0 +1,15 @@
+-- `file::writer::fit` meets its contract: the size is the file's length. Assumes nothing.
+use borrow.Author.Rules.{rules}
+use mathlib.Core.Path.{refl, sym, ◌∙◌}
+use native.Mathlib.Omega.{arith}
+use Rattle.script.proofs.Texts.{text_fits, text_short}
+use Rattle.file.proofs.WritingLaws.{put_over}
+use Rattle.file.proofs.WriterLaws.{tables_length}
+use Rattle.file.proofs.writer.fit.Goals as goal
+
+pub returns-then-size-out : goal.returns-then-size-out
+returns-then-size-out c =
+    let size = c.file_size-size.ensures ∙ sym (tables_length _ _ _ _) in text_fits size (omega (arith, c.if-size-out.true)) (put_over c.emit.ensures (omega (arith, size, c.if-size-out.true)))
+
+pub returns : goal.returns
+returns c = text_short (c.file_size-size.ensures ∙ sym (tables_length _ _ _ _)) (omega (arith, c.if-size-out.false)) refl

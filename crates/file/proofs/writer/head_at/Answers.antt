@@ -1,0 +1,18 @@
+-- `file::writer::head_at` meets its contract: part after part. Assumes nothing.
+use borrow.Author.Rules.{rules}
+use mathlib.Core.Path.{refl}
+use native.Mathlib.Omega.{arith}
+use Rattle.lambdamix.specs.Text.{ascii}
+use Rattle.script.specs.Bytes.{bytes16}
+use Rattle.file.specs.Written.{head_row}
+use Rattle.file.proofs.WritingLaws.{put_out, put_both}
+use Rattle.file.proofs.writer.head_at.Goals as goal
+
+pub returns-then-at-out : goal.returns-then-at-out
+unfolding head_row ascii bytes16
+returns-then-at-out c =
+    put_both c.pair_at.ensures refl (put_both c.word_at.ensures (omega arith) (put_both c.word_at-then-at-out.ensures (omega arith)
+    c.word_at-then-at-out-2.ensures))
+
+pub returns-else-at-out : goal.returns-else-at-out
+returns-else-at-out c = put_out _ c.if-at-out.false

@@ -1,0 +1,17 @@
+-- `file::writer::inputs_at` meets its contract: before each turn the records so far stand in the output. Assumes nothing.
+use borrow.Author.Rules.{rules}
+use Prim.Native.Nat.{◌-◌}
+use native.Mathlib.Omega.{arith}
+use Rattle.script.specs.File.{input_bytes, input_offset}
+use Rattle.script.specs.Columns.{inputs_in}
+use Rattle.file.proofs.Layouts.{input_layout}
+use Rattle.file.proofs.WritingLaws.{Progress, put_same, progress_none, progress_more, progress_all}
+use Rattle.file.proofs.writer.inputs_at.Goals as goal
+
+pub loop-j-init : goal.loop-j-init
+unfolding input_offset
+loop-j-init c = progress_none (omega arith) (omega (arith, c.input_offset-first.ensures))
+
+pub loop-j-preserved : goal.loop-j-preserved
+loop-j-preserved c =
+    progress_more c.loop-j.invariant c.loop-j-test.true (put_same (λ x. input_bytes (c.at16.ensures x)) c.input_at.ensures)

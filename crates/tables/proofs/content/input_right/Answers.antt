@@ -1,0 +1,8 @@
+-- `tables::content::input_right` meets its contract. Assumes nothing.
+use borrow.Author.Rules.{rules}
+use Rattle.script.specs.Refusals.{input_fits}
+use Rattle.tables.proofs.content.input_right.Goals as goal
+
+pub returns : goal.returns
+unfolding input_fits
+returns c = rw (← c.type_at-t.ensures)

@@ -1,0 +1,21 @@
+-- `walks::structure::count_nodes` meets its contract. The invariant: the uses by the nodes before i are counted. Assumes nothing.
+use borrow.Author.Rules.{rules}
+use Prim.Native.Nat.{◌≤◌, ◌-◌}
+use mathlib.Core.Path.{◌≡◌, sym}
+use native.Mathlib.Omega.{arith}
+use Rattle.script.specs.Words.{columns_in}
+use Rattle.walks.specs.Walks.{uses_below, Counted}
+use Rattle.walks.proofs.UseCounts.{counted_none, counted_node}
+use Rattle.walks.proofs.structure.count_nodes.Goals as goal
+
+pub loop-i-init : goal.loop-i-init
+unfolding uses_below
+loop-i-init c = (search rules, counted_none _)
+
+pub loop-i-preserved : goal.loop-i-preserved
+loop-i-preserved c = (
+  search rules,
+  counted_node c.args.nodes.now
+      c.loop-i.i c.node_word.ensures
+      c.loop-i.invariant.1 c.count_node.ensures,
+)

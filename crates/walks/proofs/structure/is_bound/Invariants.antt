@@ -1,0 +1,16 @@
+-- `walks::structure::is_bound` meets its contract. The invariant: the name is not among the first d. Assumes nothing.
+use borrow.Author.Rules.{rules}
+use Prim.Native.Nat.{◌+◌, ◌≤◌, ◌-◌}
+use mathlib.Core.Path.{◌≡◌, refl, sym, subst, ◌∙◌}
+use mathlib.Core.Bool.{true, false}
+use native.Mathlib.Omega.{arith}
+use Rattle.lambdamix.specs.Structure.{member}
+use Rattle.walks.specs.Walks.{innermost}
+use Rattle.walks.proofs.Scopes.{found_further}
+use Rattle.walks.proofs.structure.is_bound.Given as goal
+
+abbrev pub invariant-loop-d : goal.invariant-loop-d
+invariant-loop-d l = (l.d ≤ l.depth) × (false ≡ member l.x.0 (innermost l.names l.d))
+
+abbrev pub decreases-loop-d : goal.decreases-loop-d
+decreases-loop-d l = l.depth - l.d
