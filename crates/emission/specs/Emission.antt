@@ -7,7 +7,6 @@ use Rattle.lambdamix.specs.Code.{Code, Codes, nil_c, last_node, number_after, no
 use Rattle.script.specs.File.{node_bytes, records}
 use Rattle.file.specs.Written.{Put}
 use Rattle.emission.specs.declared.Finish.{Finish}
-use Rattle.emission.specs.declared.Finish.TheVariants as Finish
 use Rattle.residual.specs.Cells.{piece_by, field_by}
 use Rattle.lambdamix.specs.Refusal.{refusal}
 use Rattle.residual.specs.AfterRun.{Reply, made, unmade, Made}

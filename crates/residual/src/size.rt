@@ -47,7 +47,7 @@ fn charge_again(room: u16, left: u16) -> u16
 }
 
 // What is under the node of the cell x at p, in a height of one more than some levels.
-#[cycle(charge_field_charge_piece_charge_pieces_charge_row)]
+#[cycle(charges)]
 fn charge_pieces(codes: &[u64], p: u16, x: u64, room: u16, levels: u16) -> u16
     requires { (p ≤ length codes.now) × (x ≡ get_or codes.now p 0) }
     ensures { ChargesUnder codes.now p room levels result }
@@ -64,7 +64,7 @@ fn charge_pieces(codes: &[u64], p: u16, x: u64, room: u16, levels: u16) -> u16
 }
 
 // The fields of the cell x at p by their uses, in order; before the first stands none.
-#[cycle(charge_field_charge_piece_charge_pieces_charge_row)]
+#[cycle(charges)]
 fn charge_row(codes: &[u64], p: u16, x: u64, row: Row, room: u16, levels: u16) -> u16
     requires { p ≤ length codes.now }
     ensures { ChargesAll (row_pieces row (code_below codes.now p) x) room levels result }
@@ -81,7 +81,7 @@ fn charge_row(codes: &[u64], p: u16, x: u64, row: Row, room: u16, levels: u16) -
 
 // A field f by its use u: a child is a piece. The field before it has the use v and is g, and took the room before to this one: where
 // both are the same piece, that one is counted, and charged again.
-#[cycle(charge_field_charge_piece_charge_pieces_charge_row)]
+#[cycle(charges)]
 fn charge_field(
     codes: &[u64],
     p: u16,
@@ -106,7 +106,7 @@ fn charge_field(
 }
 
 // The code at q if that is below p, else a constant.
-#[cycle(charge_field_charge_piece_charge_pieces_charge_row)]
+#[cycle(charges)]
 fn charge_piece(codes: &[u64], p: u16, q: u16, room: u16, levels: u16) -> u16
     requires { p ≤ length codes.now }
     ensures { Charges codes.now p q room levels result }
