@@ -14,4 +14,4 @@ pub returns : goal.returns
 unfolding max_types max_inputs max_nodes
 returns c =
     body_by_tables _ c.head_counts-n.ensures (c.requires) _ c.fill_tables.ensures
-    ? c.mark_refusal-marks.ensures (tells_refusal c.tables_refusal-told.ensures) c.marks_first.ensures
+    (own_fits _ _ c.head_counts-n.ensures c.requires c.fill_tables.auto.parameters c.fill_tables.auto.results c.fill_tables.auto.inputs c.fill_tables.auto.kinds c.fill_tables.auto.a c.fill_tables.auto.b c.fill_tables.auto.c c.fill_tables.auto.values) c.mark_refusal-marks.ensures (tells_refusal c.tables_refusal-told.ensures) c.marks_first.ensures
