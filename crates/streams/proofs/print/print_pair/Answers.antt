@@ -1,7 +1,6 @@
 -- `streams::print::print_pair` meets its contract: five parts, one behind the other. Assumes nothing.
 use Rattle.lambdamix.specs.Text.{ascii}
 use Rattle.streams.proofs.Lines.{pair_placed}
-use borrow.Author.Rules.{rules}
 use Rattle.streams.proofs.print.print_pair.Goals as goal
 
 pub returns : goal.returns

@@ -1,9 +1,8 @@
 -- `streams::settings::all_marked` meets its contract: the loop searches. Assumes nothing.
-use Prim.Native.Nat.{◌-◌}
 use mathlib.Core.Path.{sym, ap, ◌∙◌}
 use native.Mathlib.Omega.{arith}
 use Rattle.script.specs.Refusals.{is_none}
-use Rattle.script.proofs.Searching.{Searching, search_begins, search_goes_on, search_finds, search_ends}
+use Rattle.script.proofs.Searching.{search_goes_on, search_finds, search_ends}
 use Rattle.streams.specs.Input.{setting_marked}
 use Rattle.streams.specs.Given.{program_settings}
 use Rattle.lambdamix.specs.Limits.{max_inputs}

@@ -1,13 +1,7 @@
 -- `streams::settings::decode` meets its contract: the loop fills. Assumes nothing.
 use Prim.Native.Nat.{◌-◌}
-use mathlib.Core.Path.{◌∙◌}
-use native.Mathlib.Omega.{arith}
-use mir.Syntax.{w32}
-use mir.Facts.{to_z-of_z}
-use Rattle.reading.proofs.Filling.{Filling, fill_begins, fill_goes_on, fill_ends, fill_length}
+use Rattle.reading.proofs.Filling.{Filling}
 use Rattle.streams.specs.Input.{setting_at}
-use Rattle.streams.specs.Given.{program_settings}
-use Rattle.lambdamix.specs.Limits.{max_inputs}
 use Rattle.streams.proofs.settings.decode.Given as goal
 
 abbrev pub invariant-loop-j : goal.invariant-loop-j
