@@ -10,7 +10,6 @@ use Rattle.lambdamix.specs.Refusal.{Refusal, or_else, refused_unless}
 use Rattle.script.specs.declared.Counts.{Counts}
 use Rattle.script.specs.declared.Refusal as Told
 use Rattle.script.specs.declared.Reading.{Reading}
-use Rattle.script.specs.declared.Reading.TheVariants as Reading
 use Rattle.script.specs.File.{head_types, head_inputs, head_nodes, script_in}
 use Rattle.script.specs.Refusals.{file_refusal}
 use Rattle.file.specs.Encodable.{AllBytes}

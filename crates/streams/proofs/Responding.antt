@@ -12,7 +12,6 @@ use Rattle.lambdamix.specs.Limits.{max_types, max_inputs, max_nodes, max_bytes}
 use Rattle.script.specs.declared.Counts.{Counts}
 use Rattle.script.specs.declared.Refusal as Told
 use Rattle.script.specs.declared.Reading.{Reading}
-use Rattle.script.specs.declared.Reading.TheVariants as Reading
 use Rattle.script.specs.Bytes.{byte_at}
 use Rattle.lambdamix.specs.Refusal.{Refusal, refused_unless}
 use Rattle.script.specs.Refusals.{file_refusal}

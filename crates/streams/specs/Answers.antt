@@ -5,7 +5,6 @@ use Rattle.lambdamix.specs.Limits.{max_bytes}
 use Rattle.script.specs.declared.Counts.{Counts}
 use Rattle.script.specs.declared.Refusal.{Refusal}
 use Rattle.script.specs.declared.Reading.{Reading}
-use Rattle.script.specs.declared.Reading.TheVariants as Reading
 use Rattle.script.specs.Tables.{Tables}
 use Rattle.file.specs.Encodable.{AllBytes}
 use Rattle.streams.specs.Input.{script_part, settings_part}

@@ -1,7 +1,6 @@
 -- `printer::list::list_words` meets its contract. Assumes nothing.
 use native.Mathlib.Omega.{arith}
 use Rattle.printer.proofs.Printed.{lists_whole, lists_nothing}
-use borrow.Author.Rules.{rules}
 use Rattle.printer.proofs.list.list_words.Goals as goal
 
 pub returns-then-length-out : goal.returns-then-length-out
