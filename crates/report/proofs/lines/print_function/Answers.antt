@@ -2,8 +2,7 @@
 use Rattle.lambdamix.specs.Text.{ascii}
 use Rattle.report.proofs.Fitting.{line_placed}
 use borrow.Author.Rules.{rules}
-use Rattle.report.proofs.lines.print_function.Statement.{statement}
-use Rattle.report.proofs.lines.print_function.Tie as tie
+use Rattle.report.proofs.lines.print_function.Goals as goal
 
 returns : tie.Need-returns
 unfolding ascii
@@ -12,5 +11,5 @@ returns c =
     let e = d.before.before.before.before.before in
     line_placed e.print-steps.ensures d.text_at.ensures c.before.before.letter_at.ensures
 
-pub print-function-spec : {M : Type 1} → statement M
-print-function-spec = tie.close (tie.spec (λ c κs. tt) (λ c. search rules) (λ c κs. tt) (λ c κs. tt) (λ c. search rules) returns)
+pub returns : goal.returns
+returns c = ?

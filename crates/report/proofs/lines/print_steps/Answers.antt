@@ -2,8 +2,7 @@
 use Rattle.lambdamix.specs.Text.{ascii}
 use Rattle.report.proofs.Fitting.{steps_placed}
 use borrow.Author.Rules.{rules}
-use Rattle.report.proofs.lines.print_steps.Statement.{statement}
-use Rattle.report.proofs.lines.print_steps.Tie as tie
+use Rattle.report.proofs.lines.print_steps.Goals as goal
 
 returns : tie.Need-returns
 unfolding ascii
@@ -11,5 +10,5 @@ returns c =
     let d = c.before.before.before.before.before.before in
     steps_placed _ (search rules) d.before.before.before.before.text_at.ensures d.digits-at.ensures c.before.before.letter_at.ensures
 
-pub print-steps-spec : {M : Type 1} → statement M
-print-steps-spec = tie.close (tie.spec (λ c. search rules) (λ c κs. tt) (λ c κs. tt) (λ c κs. tt) (λ c. search rules) returns)
+pub returns : goal.returns
+returns c = ?

@@ -1,0 +1,15 @@
+-- `report::answer::respond` meets its contract: the output is long enough for every answer, or 21. Assumes nothing.
+use native.Mathlib.Omega.{arith}
+use Rattle.lambdamix.specs.Limits.{max_bytes}
+use Rattle.streams.proofs.Responding.{call_answered, call_short}
+use Rattle.report.specs.Report.{report}
+use borrow.Author.Rules.{rules}
+use Rattle.report.proofs.answer.respond.Goals as goal
+
+pub returns-then-out-ge-MAX_BYTES : goal.returns-then-out-ge-MAX_BYTES
+unfolding max_bytes report
+returns-then-out-ge-MAX_BYTES c = call_answered (omega arith) (omega (arith, c.well-formed{-?Start-})) c.answer.ensures
+
+pub returns : goal.returns
+unfolding max_bytes
+returns c = call_short (search rules) (search rules) (omega arith)
