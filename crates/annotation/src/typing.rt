@@ -281,7 +281,7 @@ fn put(s: &mut [u32], i: usize, w: u32)
 
 // The type of node i, under the first binders of the stack, by the table's row of its own kind; a leaf, whose row has nothing to visit,
 // by its rule.
-#[cycle(child_field_fields_node)]
+#[cycle(types)]
 fn node(
     nodes: &&[u64],
     types: &[u32; MAX_TYPES],
@@ -301,7 +301,7 @@ fn node(
 }
 
 // Field by field, by its use: a binder goes on the stack, and children are typed under it; then the rule of the node's kind.
-#[cycle(child_field_fields_node)]
+#[cycle(types)]
 fn fields(
     nodes: &&[u64],
     types: &[u32; MAX_TYPES],
@@ -326,7 +326,7 @@ fn fields(
 }
 
 // A field that is a child has the child's type, any other is not visited: D, which is no fault.
-#[cycle(child_field_fields_node)]
+#[cycle(types)]
 fn field(
     nodes: &&[u64],
     types: &[u32; MAX_TYPES],
@@ -345,7 +345,7 @@ fn field(
 }
 
 // A child's number is smaller than its parent's.
-#[cycle(child_field_fields_node)]
+#[cycle(types)]
 fn child(
     nodes: &&[u64],
     types: &[u32; MAX_TYPES],

@@ -17,7 +17,7 @@ returns-then-types-lt-MAX_TYPES c = λ few. let z : ⊥ = omega arith in absurd 
 pub returns-then-types-j : goal.returns-then-types-j
 unfolding max_types
 returns-then-types-j c =
-    λ few. rw c.type-inv.ensures{-?After-typed-} (listed_at _ c.loop-j-test.true
+    λ few. rw c.typed.ensures (listed_at _ c.loop-j-test.true
     (c.if-types-j.true ∙ c.function_word-w.ensures.word))
 
 pub loop-j-preserved : goal.loop-j-preserved

@@ -28,7 +28,7 @@ module _ (binders : List ℕ) (x i d : ℕ) where
 
 pub returns-then-y-x : goal.returns-then-y-x
 returns-then-y-x c =
-    λ few. c.type-inv.ensures{-?After-typed-} ∙ rw c.binder_type.ensures
+    λ few. c.typed.ensures ∙ rw c.binder_type.ensures
     (sym (c.loop-d.invariant.1
     ∙ found_here _ _ _ _ c.loop-d-test.true
     (sym c.binder_name-y.ensures ∙ c.if-y-x.true)))
