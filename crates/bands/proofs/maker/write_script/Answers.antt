@@ -22,5 +22,5 @@ pub returns : goal.returns
 unfolding band_nodes
 returns c =
     script_written _ _ c.requires c.fill_nodes.ensures
-    (long_by c.requires.count c.fill_nodes.kept.1.1.1.1.0 c.fill_nodes.kept.1.1.1.1.1.0 c.fill_nodes.kept.1.1.1.1.1.1.0 c.fill_nodes.kept.1.1.1.1.1.1.1.0 c.fill_nodes.kept.1.1.1.1.1.1.1.1.0)
+    (long_by c.requires.count c.fill_nodes.auto.kinds c.fill_nodes.auto.a c.fill_nodes.auto.b c.fill_nodes.auto.c c.fill_nodes.auto.values)
     refl c.write.ensures

@@ -8,7 +8,7 @@ use Rattle.report.proofs.answer.respond.Goals as goal
 
 pub returns-then-out-ge-MAX_BYTES : goal.returns-then-out-ge-MAX_BYTES
 unfolding max_bytes report
-returns-then-out-ge-MAX_BYTES c = call_answered (omega arith) (omega (arith, c.well-formed{-?Start-})) c.answer.ensures
+returns-then-out-ge-MAX_BYTES c = call_answered (omega arith) (omega (arith, c.well_formed)) c.answer.ensures
 
 pub returns : goal.returns
 unfolding max_bytes

@@ -4,11 +4,6 @@ use Rattle.report.proofs.Fitting.{steps_placed}
 use borrow.Author.Rules.{rules}
 use Rattle.report.proofs.lines.print_steps.Goals as goal
 
-returns : tie.Need-returns
-unfolding ascii
-returns c =
-    let d = c.before.before.before.before.before.before in
-    steps_placed _ (search rules) d.before.before.before.before.text_at.ensures d.digits-at.ensures c.before.before.letter_at.ensures
-
 pub returns : goal.returns
-returns c = ?
+unfolding ascii
+returns c = steps_placed _ (search rules) c.text_at-one.ensures c.digits_at-two.ensures c.letter_at.ensures

@@ -7,17 +7,16 @@ use Rattle.report.proofs.Fitting.{prints_unfinished}
 use borrow.Author.Rules.{rules}
 use Rattle.report.proofs.lines.print_unfinished.Goals as goal
 
-returns-2 : tie.Need-returns-2
-unfolding ascii
-returns-2 c =
-    let start = c.before.before.before.before.before.before.before.before in
-    let refused = c.before.before.before.before.before.before.if1 in
-    rw (le-ltb start.args.number 20 (omega (arith, refused.false)))
-    (prints_unfinished false _ _ (omega (arith, start.ranges.number)) (omega (arith, start.ranges.place)) (search rules) (search rules)
-    c.before.before.print-pair2.ensures)
-
 pub returns-then-number-lt20 : goal.returns-then-number-lt20
-returns-then-number-lt20 c = ?
+unfolding ascii
+returns-then-number-lt20 c =
+    rw (lt-ltb c.args.number 20 (omega (arith, c.if-number-lt20.true)))
+    (prints_unfinished true _ _ (omega (arith, c.ranges.number)) (omega (arith, c.ranges.place)) (search rules) (search rules)
+    c.print_pair.ensures)
 
 pub returns : goal.returns
-returns c = ?
+unfolding ascii
+returns c =
+    rw (le-ltb c.args.number 20 (omega (arith, c.if-number-lt20.false)))
+    (prints_unfinished false _ _ (omega (arith, c.ranges.number)) (omega (arith, c.ranges.place)) (search rules) (search rules)
+    c.print_pair-2.ensures)
