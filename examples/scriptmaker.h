@@ -1,4 +1,4 @@
-/* The script maker for callers in C: x86-64 Linux, link libscriptmaker.a (rt staticlib scriptmaker).
+/* The script maker for callers in C: x86-64 Linux, link libscriptmaker.a (tests/build).
  *
  * Every call is answered: a reply has the paper's number and place, and number 0 and place 0 after a success. What is promised of
  * each call is proved; crates/scriptmaker/specs/Calls.antt says it. No function keeps anything between calls, takes memory, or

@@ -1,4 +1,4 @@
-//! The script maker for callers in Rust: safe functions over the proved library `libscriptmaker.a` (`rt staticlib scriptmaker`).
+//! The script maker for callers in Rust: safe functions over the proved library `libscriptmaker.a` (`tests/build`).
 //! What is promised of each call is proved; `crates/scriptmaker/specs/Calls.antt` says it.
 
 pub const MAX_TYPES: usize = 64;

@@ -8,12 +8,15 @@ use standard::input::read_input;
 use standard::output::print;
 use streams::limits::MAX_BYTES;
 
-fn main() {
-    let mut space = io::large_buffer();
-    let n = read_input(&mut space);
+// A write that fails is not told.
+fn main(rt: HostRuntime) {
+    let mut space = [0u8; MAX_BYTES];
+    let n = read_input(&mut rt.stdin(), &mut space);
     let mut out = [0u8; MAX_BYTES];
     match respond(&space[..n], &mut out) {
-        Writing::Written(k) => print(&out, k),
+        Writing::Written(k) => {
+            let _ = print(&mut rt.stdout(), &out, k);
+        }
         Writing::Refused(_) => {}
     }
 }

@@ -11,46 +11,68 @@ use cells::limits::MAX_FUEL;
 use reading::bytes;
 use residual::Reply;
 use script::{Writing, column};
+use std::io;
 
 // The places of the longest column and of the longest output.
 const PLACES: usize = 40;
 
 const ROOM: usize = 4096;
 
-fn print_reply(k: usize, number: u8, place: usize, length: usize) {
-    print::first(k);
-    print::next(number as usize);
-    print::next(place);
-    print::next(length);
-    print::end();
+fn print_reply(
+    rt: &impl Print,
+    k: usize,
+    number: u8,
+    place: usize,
+    length: usize,
+) -> io::Result<()> {
+    print::first(rt, k)?;
+    print::next(rt, number as usize)?;
+    print::next(rt, place)?;
+    print::next(rt, length)?;
+    print::end(rt)
 }
 
 // The readings of a record, behind their count at a place, each graded by a plain run of its own.
-fn grade_each(record: &[u8], at: u16, count: u16, file: &[u8], heap: &mut [u64]) {
+fn grade_each(
+    rt: &impl Print,
+    record: &[u8],
+    at: u16,
+    count: u16,
+    file: &[u8],
+    heap: &mut [u64],
+) -> io::Result<()> {
     for j in 0..count {
         let reading = [bytes::value32(record, (at as usize) + 2 + 4 * (j as usize)); 1];
-        print_told(run_file(file, &reading, MAX_FUEL, heap));
+        print_told(rt, run_file(file, &reading, MAX_FUEL, heap))?;
     }
+    Ok(())
 }
 
-fn grade_accepted(record: &[u8], at: u16, file: &[u8], heap: &mut [u64]) {
+fn grade_accepted(
+    rt: &impl Print,
+    record: &[u8],
+    at: u16,
+    file: &[u8],
+    heap: &mut [u64],
+) -> io::Result<()> {
     match check_file(file) {
         Reply::Made(_, _) => {
             let count = bytes::number16(record, at as usize);
-            grade_each(record, at, count, file, heap);
+            grade_each(rt, record, at, count, file, heap)
         }
-        Reply::Unmade(_, _) => print::end(),
+        Reply::Unmade(_, _) => print::end(rt),
     }
 }
 
-fn print_made(record: &[u8], at: u16, file: &[u8]) {
+fn print_made(rt: &impl Print, record: &[u8], at: u16, file: &[u8]) -> io::Result<()> {
     let mut heap = [0u64; HEAP];
-    print_bytes(file, file.len());
-    print::end();
-    grade_accepted(record, at, file, &mut heap);
+    print_bytes(rt, file, file.len())?;
+    print::end(rt)?;
+    grade_accepted(rt, record, at, file, &mut heap)
 }
 
 fn try_lent(
+    rt: &impl Print,
     k: usize,
     record: &[u8],
     at: u16,
@@ -58,15 +80,15 @@ fn try_lent(
     high: &[i32],
     grade: &[i32],
     out: &mut [u8],
-) {
+) -> io::Result<()> {
     match bands(bytes::number16(record, 0), low, high, grade, out) {
-        Writing::Refused(f) => print_reply(k, f.number, f.place, 0),
+        Writing::Refused(f) => print_reply(rt, k, f.number, f.place, 0),
         Writing::Written(length) => {
-            print_reply(k, 0, 0, length);
+            print_reply(rt, k, 0, 0, length)?;
             if length <= out.len() {
-                let first = 0;
-                print_made(record, at, &out[first..length]);
+                print_made(rt, record, at, &out[..length])?;
             }
+            Ok(())
         }
     }
 }
@@ -83,7 +105,7 @@ fn places(record: &[u8], at: usize, most: u16) -> u16
 }
 
 // Columns and output are lent as long as the record says.
-pub(crate) fn try_call(k: usize, record: &[u8]) {
+pub(crate) fn try_call(rt: &impl Print, k: usize, record: &[u8]) -> io::Result<()> {
     let mut low = [0i32; PLACES];
     let mut high = [0i32; PLACES];
     let mut grade = [0i32; PLACES];
@@ -94,18 +116,18 @@ pub(crate) fn try_call(k: usize, record: &[u8]) {
     read_settings(record, 9, lows, &mut low);
     read_settings(record, 9 + 4 * lows, highs, &mut high);
     read_settings(record, 9 + 4 * (lows + highs), grades, &mut grade);
-    let first = 0;
     let l = lows as usize;
     let h = highs as usize;
     let g = grades as usize;
     let room = lent(record, 2, ROOM);
     try_lent(
+        rt,
         k,
         record,
         9 + 4 * (lows + highs + grades),
-        &low[first..l],
-        &high[first..h],
-        &grade[first..g],
-        &mut space[first..room],
-    );
+        &low[..l],
+        &high[..h],
+        &grade[..g],
+        &mut space[..room],
+    )
 }

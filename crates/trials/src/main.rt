@@ -11,6 +11,12 @@ mod runs;
 mod scripts;
 mod task;
 
+use standard::input::read_full;
+use std::fs;
+use std::io::{self, Read};
+use std::rt::Files;
+use streams::limits::MAX_BYTES;
+
 // Which functions the records of a file go through.
 #[derive(Clone, Copy)]
 enum Kind {
@@ -22,64 +28,70 @@ enum Kind {
     Bands,
 }
 
-fn try_record(kind: Kind, k: usize, record: &[u8]) {
+fn try_record(rt: &impl Print, kind: Kind, k: usize, record: &[u8]) -> io::Result<()> {
     match kind {
-        Kind::Scripts => scripts::try_script(k, record),
-        Kind::Makes => makes::try_call(k, record),
-        Kind::Inputs => answers::try_making(k, record),
-        Kind::Runs => runs::try_run(k, record),
-        Kind::Readings => answers::try_running(k, record),
-        Kind::Bands => coins::try_call(k, record),
+        Kind::Scripts => scripts::try_script(rt, k, record),
+        Kind::Makes => makes::try_call(rt, k, record),
+        Kind::Inputs => answers::try_making(rt, k, record),
+        Kind::Runs => runs::try_run(rt, k, record),
+        Kind::Readings => answers::try_running(rt, k, record),
+        Kind::Bands => coins::try_call(rt, k, record),
     }
 }
 
-// The next n bytes of the file are a record.
-fn try_next(kind: Kind, file: i32, k: usize, n: usize, space: &mut [u8]) -> bool {
+// The next n bytes of the file are a record. Whether they are there, and the space is long enough.
+fn try_next(
+    rt: &impl Print,
+    kind: Kind,
+    file: &mut impl Read,
+    k: usize,
+    n: usize,
+    space: &mut [u8],
+) -> io::Result<bool> {
     if space.len() < n {
-        return false;
+        return Ok(false);
     }
-    let first = 0;
-    if io::read_full(file, &mut space[first..n]) < n {
-        return false;
+    if read_full(file, &mut space[..n]) < n {
+        return Ok(false);
     }
-    if space.len() < n {
-        return false;
-    }
-    try_record(kind, k, &space[first..n]);
-    true
+    try_record(rt, kind, k, &space[..n])?;
+    Ok(true)
 }
 
 // One record of the file, or that there is none left.
-fn next(kind: Kind, file: i32, k: usize) -> bool {
+fn next(rt: &impl Print, kind: Kind, file: &mut impl Read, k: usize) -> io::Result<bool> {
     let mut head = [0u8; 4];
-    if io::read_full(file, &mut head) < 4 {
-        return false;
+    if read_full(file, &mut head) < 4 {
+        return Ok(false);
     }
     let n = reading::bytes::number32(&head, 0) as usize;
-    let mut space = io::large_buffer();
-    try_next(kind, file, k, n, &mut space)
+    let mut space = [0u8; MAX_BYTES];
+    try_next(rt, kind, file, k, n, &mut space)
 }
 
-// All records of a file.
-fn run(kind: Kind, path: &[u8]) {
-    let file = os::open_read(path);
-    if file < 0 {
-        os::fail(path);
-        return;
-    }
+// All records of an open file.
+fn run_all(rt: &impl Print, kind: Kind, file: &mut impl Read) -> io::Result<()> {
     for k in 0..1000000 {
-        if !next(kind, file, k) {
+        if !next(rt, kind, file, k)? {
             break;
         }
     }
-    libc::close(file);
+    Ok(())
 }
 
-fn main() {
-    run(Kind::Scripts, b"scripts.bin");
-    run(Kind::Makes, b"makes.bin");
-    run(Kind::Inputs, b"inputs.bin");
-    run(Kind::Runs, b"runs.bin");
-    run(Kind::Readings, b"readings.bin");
-    run(Kind::Bands, b"bands.bin");
+// All records of a file. One that cannot be opened is told of, and the next is run.
+fn run(rt: &(impl Files + Print + Eprint), kind: Kind, path: &str) -> io::Result<()> {
+    match fs::open(rt, path) {
+        Ok(mut file) => run_all(rt, kind, &mut file),
+        Err(e) => eprintln!(rt; "{path}: {e}"),
+    }
+}
+
+fn main(rt: HostRuntime) -> io::Result<()> {
+    run(&rt, Kind::Scripts, "scripts.bin")?;
+    run(&rt, Kind::Makes, "makes.bin")?;
+    run(&rt, Kind::Inputs, "inputs.bin")?;
+    run(&rt, Kind::Runs, "runs.bin")?;
+    run(&rt, Kind::Readings, "readings.bin")?;
+    run(&rt, Kind::Bands, "bands.bin")
 }

@@ -12,6 +12,7 @@ use residual::Reply;
 use script::limits::MAX_INPUTS;
 use script::place::file_size;
 use script::{Counts, column};
+use std::io;
 use streams::limits::MAX_BYTES;
 
 // Places of the stores that suffice for every call.
@@ -31,23 +32,31 @@ pub(crate) fn lent(record: &[u8], at: u16, most: usize) -> usize
 }
 
 // The first n bytes of a file.
-pub(crate) fn print_bytes(file: &[u8], n: usize) {
+pub(crate) fn print_bytes(rt: &impl Print, file: &[u8], n: usize) -> io::Result<()> {
     for i in 0..n {
-        print::byte(column::at8(file, i));
+        print::byte(rt, column::at8(file, i))?;
     }
+    Ok(())
 }
 
-fn print_reply(k: usize, number: u8, place: usize, steps: u16, nodes: u16) {
-    print::first(k);
-    print::next(number as usize);
-    print::next(place);
-    print::next(steps as usize);
-    print::next(nodes as usize);
-    print::end();
+fn print_reply(
+    rt: &impl Print,
+    k: usize,
+    number: u8,
+    place: usize,
+    steps: u16,
+    nodes: u16,
+) -> io::Result<()> {
+    print::first(rt, k)?;
+    print::next(rt, number as usize)?;
+    print::next(rt, place)?;
+    print::next(rt, steps as usize)?;
+    print::next(rt, nodes as usize)?;
+    print::end(rt)
 }
 
 // The head of a made file tells how many inputs it has.
-fn print_answer(k: usize, r: Reply, out: &[u8]) {
+fn print_answer(rt: &impl Print, k: usize, r: Reply, out: &[u8]) -> io::Result<()> {
     match r {
         Reply::Made(steps, nodes) => {
             let made = Counts {
@@ -55,11 +64,11 @@ fn print_answer(k: usize, r: Reply, out: &[u8]) {
                 inputs: bytes::number16(out, 4),
                 nodes: nodes,
             };
-            print_reply(k, 0, 0, steps, nodes);
-            print_bytes(out, file_size(made));
-            print::end();
+            print_reply(rt, k, 0, 0, steps, nodes)?;
+            print_bytes(rt, out, file_size(made))?;
+            print::end(rt)
         }
-        Reply::Unmade(f, steps) => print_reply(k, f.number, f.place, steps, 0),
+        Reply::Unmade(f, steps) => print_reply(rt, k, f.number, f.place, steps, 0),
     }
 }
 
@@ -82,6 +91,7 @@ fn task_of(record: &[u8]) -> Task {
 }
 
 fn try_split(
+    rt: &impl Print,
     k: usize,
     record: &[u8],
     count: u8,
@@ -89,46 +99,46 @@ fn try_split(
     heap: &mut [u64],
     codes: &mut [u64],
     out: &mut [u8],
-) {
+) -> io::Result<()> {
     let given = count as usize;
     let at = 18 + 4 * given;
     let end = record.len();
     if at <= end {
         if given <= settings.len() {
-            let first = 0;
             let r = try_file(
                 task_of(record),
                 &record[at..end],
-                &settings[first..given],
+                &settings[..given],
                 bytes::number32(record, 1),
                 heap,
                 codes,
                 out,
             );
-            print_answer(k, r, out);
+            print_answer(rt, k, r, out)?;
         }
     }
+    Ok(())
 }
 
 // The stores and the output are lent as long as the record says.
-pub(crate) fn try_call(k: usize, record: &[u8]) {
+pub(crate) fn try_call(rt: &impl Print, k: usize, record: &[u8]) -> io::Result<()> {
     let mut settings = [0i32; 255];
     let mut heap = [0u64; HEAP];
     let mut codes = [0u64; CODES];
     let mut space = [0u8; MAX_BYTES];
     let count = column::at8(record, 17);
     read_settings(record, 18, count as u16, &mut settings);
-    let first = 0;
     let store = lent(record, 5, HEAP);
     let code = lent(record, 9, CODES);
     let room = lent(record, 13, MAX_BYTES);
     try_split(
+        rt,
         k,
         record,
         count,
         &settings,
-        &mut heap[first..store],
-        &mut codes[first..code],
-        &mut space[first..room],
-    );
+        &mut heap[..store],
+        &mut codes[..code],
+        &mut space[..room],
+    )
 }

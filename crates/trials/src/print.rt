@@ -1,40 +1,39 @@
 // A line of numbers, or of bytes.
-use libc::STDOUT_FILENO;
+use std::io;
 use text::decimals::put_decimal;
 
-pub(crate) fn first(k: usize) {
-    io::print_decimal(STDOUT_FILENO, k as u64);
+pub(crate) fn first(rt: &impl Print, k: usize) -> io::Result<()> {
+    print!(rt; "{k}")
 }
 
-pub(crate) fn blank() {
-    io::write_all(STDOUT_FILENO, b" ");
+pub(crate) fn blank(rt: &impl Print) -> io::Result<()> {
+    rt.write_all(b" ")
 }
 
-pub(crate) fn next(x: usize) {
-    blank();
-    io::print_decimal(STDOUT_FILENO, x as u64);
+pub(crate) fn next(rt: &impl Print, x: usize) -> io::Result<()> {
+    print!(rt; " {x}")
 }
 
 // The first n bytes of a text.
-pub(crate) fn bytes(text: &[u8], n: usize) {
+pub(crate) fn bytes(rt: &impl Print, text: &[u8], n: usize) -> io::Result<()> {
     if n <= text.len() {
-        let first = 0;
-        io::write_all(STDOUT_FILENO, &text[first..n]);
+        rt.write_all(&text[..n])?;
     }
+    Ok(())
 }
 
-pub(crate) fn signed(z: i32) {
+pub(crate) fn signed(rt: &impl Print, z: i32) -> io::Result<()> {
     let mut space = [0u8; 12];
     let written = put_decimal(&mut space, z);
-    blank();
-    bytes(&space, written.length);
+    blank(rt)?;
+    bytes(rt, &space, written.length)
 }
 
 // Two hexadecimal digits.
-pub(crate) fn byte(x: u8) {
-    io::print_hex(STDOUT_FILENO, x as u64, 2);
+pub(crate) fn byte(rt: &impl Print, x: u8) -> io::Result<()> {
+    print!(rt; "{x:02x}")
 }
 
-pub(crate) fn end() {
-    io::write_all(STDOUT_FILENO, b"\n");
+pub(crate) fn end(rt: &impl Print) -> io::Result<()> {
+    rt.write_all(b"\n")
 }

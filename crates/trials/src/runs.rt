@@ -8,21 +8,29 @@ use reading::bytes;
 use reading::reader::read;
 use script::limits::{MAX_INPUTS, MAX_NODES, MAX_TYPES};
 use script::{Reading, column};
+use std::io;
 
-fn print_reply(number: u8, place: usize, steps: u16, function: usize, value: i32) {
-    print::first(number as usize);
-    print::next(place);
-    print::next(steps as usize);
-    print::next(function);
-    print::signed(value);
-    print::end();
+fn print_reply(
+    rt: &impl Print,
+    number: u8,
+    place: usize,
+    steps: u16,
+    function: usize,
+    value: i32,
+) -> io::Result<()> {
+    print::first(rt, number as usize)?;
+    print::next(rt, place)?;
+    print::next(rt, steps as usize)?;
+    print::next(rt, function)?;
+    print::signed(rt, value)?;
+    print::end(rt)
 }
 
-pub(crate) fn print_told(r: Reply) {
+pub(crate) fn print_told(rt: &impl Print, r: Reply) -> io::Result<()> {
     match r {
-        Reply::Number(z, steps) => print_reply(0, 0, steps, 0, z),
-        Reply::Function(steps) => print_reply(0, 0, steps, 1, 0),
-        Reply::Unfinished(f, steps) => print_reply(f.number, f.place, steps, 0, 0),
+        Reply::Number(z, steps) => print_reply(rt, 0, 0, steps, 0, z),
+        Reply::Function(steps) => print_reply(rt, 0, 0, steps, 1, 0),
+        Reply::Unfinished(f, steps) => print_reply(rt, f.number, f.place, steps, 0, 0),
     }
 }
 
@@ -66,28 +74,37 @@ pub(crate) fn run_file(file: &[u8], numbers: &[i32], fuel: u32, heap: &mut [u64]
     }
 }
 
-fn run_split(k: usize, record: &[u8], count: u8, numbers: &[i32], heap: &mut [u64]) {
+fn run_split(
+    rt: &impl Print,
+    k: usize,
+    record: &[u8],
+    count: u8,
+    numbers: &[i32],
+    heap: &mut [u64],
+) -> io::Result<()> {
     let given = count as usize;
     let at = 9 + 4 * given;
     let end = record.len();
     if at <= end {
         if given <= numbers.len() {
-            let first = 0;
             let fuel = bytes::number32(record, 0);
-            print::first(k);
-            print::blank();
-            print_told(run_file(&record[at..end], &numbers[first..given], fuel, heap));
+            print::first(rt, k)?;
+            print::blank(rt)?;
+            print_told(
+                rt,
+                run_file(&record[at..end], &numbers[..given], fuel, heap),
+            )?;
         }
     }
+    Ok(())
 }
 
 // The store is lent as long as the record says.
-pub(crate) fn try_run(k: usize, record: &[u8]) {
+pub(crate) fn try_run(rt: &impl Print, k: usize, record: &[u8]) -> io::Result<()> {
     let mut numbers = [0i32; 255];
     let mut heap = [0u64; HEAP];
     let count = column::at8(record, 8);
     read_settings(record, 9, count as u16, &mut numbers);
-    let first = 0;
     let store = lent(record, 4, HEAP);
-    run_split(k, record, count, &numbers, &mut heap[first..store]);
+    run_split(rt, k, record, count, &numbers, &mut heap[..store])
 }

@@ -2,12 +2,13 @@
 use crate::print;
 use crate::task::{Task, try_file};
 use residual::Reply;
+use std::io;
 
-fn print_line(k: usize, number: u8, place: usize) {
-    print::first(k);
-    print::next(number as usize);
-    print::next(place);
-    print::end();
+fn print_line(rt: &impl Print, k: usize, number: u8, place: usize) -> io::Result<()> {
+    print::first(rt, k)?;
+    print::next(rt, number as usize)?;
+    print::next(rt, place)?;
+    print::end(rt)
 }
 
 // The checker wants neither settings nor stores nor output.
@@ -27,9 +28,9 @@ pub(crate) fn check_file(file: &[u8]) -> Reply {
     )
 }
 
-pub(crate) fn try_script(k: usize, file: &[u8]) {
+pub(crate) fn try_script(rt: &impl Print, k: usize, file: &[u8]) -> io::Result<()> {
     match check_file(file) {
-        Reply::Made(_, _) => print_line(k, 0, 0),
-        Reply::Unmade(f, _) => print_line(k, f.number, f.place),
+        Reply::Made(_, _) => print_line(rt, k, 0, 0),
+        Reply::Unmade(f, _) => print_line(rt, k, f.number, f.place),
     }
 }
