@@ -25,8 +25,7 @@ fn reply(v: Verdict) -> CheckReply
 }
 
 // Refusals 1 to 8 as the file of the tables, then 9 to 11.
-#[unsafe(no_mangle)]
-pub extern "C" fn scriptmaker_check(
+pub fn scriptmaker_check(
     n: Counts,
     parameters: &[u16],
     results: &[u16],

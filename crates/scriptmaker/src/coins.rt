@@ -8,8 +8,7 @@ use crate::write::reply;
 use bands::maker::bands;
 
 // Columns shorter than the count: 1 [0]; then 30, 31 and 32, each for all rows; then 21 for a short output.
-#[unsafe(no_mangle)]
-pub extern "C" fn scriptmaker_bands(
+pub fn scriptmaker_bands(
     count: u16,
     low: &[i32],
     high: &[i32],

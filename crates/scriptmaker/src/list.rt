@@ -9,8 +9,7 @@ use crate::{Counts, WriteReply, counted};
 use printer::list::list;
 
 // Tables shorter than the counts: 1 [0]; then 3 to 8, then 21; what is not refused is listed.
-#[unsafe(no_mangle)]
-pub extern "C" fn scriptmaker_list(
+pub fn scriptmaker_list(
     n: Counts,
     parameters: &[u16],
     results: &[u16],

@@ -32,8 +32,7 @@ fn reply(r: Reply) -> MakeReply
 }
 
 // The making of a script: refusals 1 to 13 and 20, the run, 26, 21.
-#[unsafe(no_mangle)]
-pub extern "C" fn scriptmaker_make(
+pub fn scriptmaker_make(
     n: Counts,
     parameters: &[u16],
     results: &[u16],
@@ -72,8 +71,7 @@ pub extern "C" fn scriptmaker_make(
 }
 
 // "There is also a bare run, which leaves out refusals 9 to 11 and meets bad marks as stop 27."
-#[unsafe(no_mangle)]
-pub extern "C" fn scriptmaker_bare_run(
+pub fn scriptmaker_bare_run(
     n: Counts,
     parameters: &[u16],
     results: &[u16],

@@ -34,8 +34,7 @@ fn reply(r: Reading) -> ReadReply
 }
 
 // Refusals 1 to 8, then 21; what is not refused fills the lent tables.
-#[unsafe(no_mangle)]
-pub extern "C" fn scriptmaker_read(
+pub fn scriptmaker_read(
     file: &[u8],
     parameters: &mut [u16],
     results: &mut [u16],

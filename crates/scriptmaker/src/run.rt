@@ -38,8 +38,7 @@ fn reply(r: Reply) -> RunReply
 }
 
 // The plain run of a script on a number for every input: refusals 1 to 8, 12, 13, 20; the run, with stops 22 to 25, 28 and 29.
-#[unsafe(no_mangle)]
-pub extern "C" fn scriptmaker_run(
+pub fn scriptmaker_run(
     n: Counts,
     parameters: &[u16],
     results: &[u16],

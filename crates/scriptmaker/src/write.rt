@@ -26,8 +26,7 @@ pub(crate) fn reply(r: Writing) -> WriteReply
 }
 
 // Tables shorter than the counts: 1 [0]; then the refusals of the tables' file; then 21 for a short output.
-#[unsafe(no_mangle)]
-pub extern "C" fn scriptmaker_write(
+pub fn scriptmaker_write(
     n: Counts,
     parameters: &[u16],
     results: &[u16],
