@@ -9,7 +9,6 @@ use Rattle.lambdamix.specs.Refusal as Lambdamix
 use Rattle.lambdamix.specs.Refusal.{or_else, refused_unless, first_failing, refused_at}
 use Rattle.script.specs.declared.Refusal.{Refusal}
 use Rattle.script.specs.declared.Verdict.{Verdict}
-use Rattle.script.specs.declared.Verdict.TheVariants as Verdict
 use Rattle.script.specs.Verdicts.{refusal_of}
 use Rattle.script.proofs.RefusalLaws.{pass_over}
 use Rattle.script.proofs.Verdicts.{refused_tells_first, passed_tells_next}

@@ -18,9 +18,7 @@ use Rattle.lambdamix.proofs.Tests.{holds_or_fails}
 use Rattle.script.specs.declared.Counts.{Counts}
 use Rattle.script.specs.declared.Refusal.{Refusal}
 use Rattle.script.specs.declared.Verdict.{Verdict}
-use Rattle.script.specs.declared.Verdict.TheVariants as Verdict
 use Rattle.script.specs.declared.Reading.{Reading}
-use Rattle.script.specs.declared.Reading.TheVariants as Reading
 use Rattle.script.specs.File.{head_types, head_inputs, head_nodes, script_in}
 use Rattle.script.specs.Refusals.{counts_right, content_of, content_refusal, script_refusal, mark_refusal, earlier, earlier_by, body_refusal, file_refusal, head_refusal}
 use Rattle.script.specs.Tables.{Tables, tables_script, filled, long_enough, tables_refusal, read_refusal, read_tables}

@@ -5,7 +5,6 @@ use Rattle.lambdamix.specs.Script.{Script}
 use Rattle.lambdamix.specs.Refusal.{Refusal, or_else, refused_unless}
 use Rattle.script.specs.declared.Counts.{Counts}
 use Rattle.script.specs.declared.Reading.{Reading}
-use Rattle.script.specs.declared.Reading.TheVariants as Reading
 use Rattle.script.specs.File.{script_with}
 use Rattle.script.specs.Tables.{Tables}
 use Rattle.script.specs.Replies.{head_counts}

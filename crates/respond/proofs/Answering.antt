@@ -27,7 +27,6 @@ use Rattle.script.proofs.RefusalLaws.{neither}
 use Rattle.file.proofs.FileLaws.{file_refusal_lem, read_written, script_counts, script_passes}
 use Rattle.file.proofs.AcceptedAgain.{written_again, values_fit}
 use Rattle.residual.specs.declared.Reply.{Reply}
-use Rattle.residual.specs.declared.Reply.TheVariants as Reply
 use Rattle.residual.specs.AfterRun.{nodes_in, made, Made, replied, written_by, after_run}
 use Rattle.specializer.specs.Making.{made_unless, made_file}
 use Rattle.specializer.proofs.Exactly.{made_length, made_file_lem, made_code}

@@ -8,12 +8,10 @@ use native.Mathlib.Omega.{arith}
 use lib.ListN.{length, take, drop, length-append}
 use Rattle.lambdamix.specs.Limits.{max_types, max_inputs, max_nodes, max_bytes}
 use Rattle.lambdamix.specs.Script.{node_count}
-use Rattle.lambdamix.specs.Refusal.{Refusal}
 use Rattle.lambdamix.specs.Listing.{listing}
 use Rattle.script.specs.declared.Counts.{Counts}
 use Rattle.script.specs.declared.Refusal as Told
 use Rattle.script.specs.declared.Reading.{Reading}
-use Rattle.script.specs.declared.Reading.TheVariants as Reading
 use Rattle.script.specs.File.{file_length, head_types, head_inputs, head_nodes, script_in}
 use Rattle.script.specs.Refusals.{file_refusal}
 use Rattle.file.specs.Encodable.{AllBytes}

@@ -9,7 +9,7 @@ use Rattle.lambdamix.specs.declared.Mode.TheVariants.{Making}
 use Rattle.lambdamix.specs.Limits.{program_fuel}
 use Rattle.script.specs.declared.Counts.{Counts}
 use Rattle.script.specs.Tables.{Tables, over}
-use Rattle.cells.specs.Room.{Stores, stores, stores_suffice}
+use Rattle.cells.specs.Room.{Stores, stores_suffice}
 use Rattle.residual.specs.declared.Reply.{Reply}
 use Rattle.specializer.specs.Entry.{Makes}
 use Rattle.streams.specs.Given.{program_settings}

@@ -7,7 +7,6 @@ use Rattle.lambdamix.specs.Script.{Script}
 use Rattle.lambdamix.specs.Listing.{listing}
 use Rattle.script.specs.declared.Counts.{Counts}
 use Rattle.script.specs.declared.Reading.{Reading}
-use Rattle.script.specs.declared.Reading.TheVariants as Reading
 use Rattle.script.specs.File.{head_inputs, script_in}
 use Rattle.script.specs.Refusals.{file_refusal}
 use Rattle.script.specs.Tables.{Tables, tables_refusal}

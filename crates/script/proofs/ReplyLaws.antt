@@ -9,11 +9,8 @@ use lib.ListN.{length}
 use Rattle.lambdamix.specs.Refusal as Lambdamix
 use Rattle.script.specs.declared.Counts.{Counts}
 use Rattle.script.specs.declared.Verdict.{Verdict}
-use Rattle.script.specs.declared.Verdict.TheVariants as Verdict
 use Rattle.script.specs.declared.Reading.{Reading}
-use Rattle.script.specs.declared.Reading.TheVariants as Reading
 use Rattle.script.specs.declared.Writing.{Writing}
-use Rattle.script.specs.declared.Writing.TheVariants as Writing
 use Rattle.script.specs.Replies.{Reply, replying, verdict_reply, reading_reply, writing_reply, head_counts, Tells, Reads, WritesText}
 use Rattle.script.specs.Verdicts.{refusal_of, reading, writing}
 use Rattle.script.specs.Tables.{Tables, read_refusal}

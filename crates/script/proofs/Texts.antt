@@ -13,9 +13,7 @@ use Rattle.lambdamix.specs.Refusal as Lambdamix
 use Rattle.lambdamix.specs.Refusal.{or_else, refused_unless}
 use Rattle.script.specs.declared.Refusal.{Refusal}
 use Rattle.script.specs.declared.Verdict.{Verdict}
-use Rattle.script.specs.declared.Verdict.TheVariants as Verdict
 use Rattle.script.specs.declared.Writing.{Writing}
-use Rattle.script.specs.declared.Writing.TheVariants as Writing
 use Rattle.script.specs.Tables.{over, room_refusal, written_output}
 use Rattle.script.specs.Replies.{replying, writing_reply, WritesText}
 use Rattle.script.specs.Verdicts.{refusal_of, Fitted}

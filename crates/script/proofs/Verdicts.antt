@@ -5,7 +5,6 @@ use Rattle.lambdamix.specs.Refusal as Lambdamix
 use Rattle.lambdamix.specs.Refusal.{or_else}
 use Rattle.script.specs.declared.Refusal.{Refusal}
 use Rattle.script.specs.declared.Verdict.{Verdict}
-use Rattle.script.specs.declared.Verdict.TheVariants as Verdict
 use Rattle.script.specs.Verdicts.{refusal_of}
 
 module _ {v : Verdict} {p : Option Lambdamix.Refusal} (told : refusal_of v ≡ p) where

@@ -6,11 +6,8 @@ use Rattle.std.proofs.Math.Option.{Option, none, some}
 use Rattle.lambdamix.specs.Refusal.{Refusal}
 use Rattle.script.specs.declared.Counts.{Counts}
 use Rattle.script.specs.declared.Verdict.{Verdict}
-use Rattle.script.specs.declared.Verdict.TheVariants as Verdict
 use Rattle.script.specs.declared.Reading.{Reading}
-use Rattle.script.specs.declared.Reading.TheVariants as Reading
 use Rattle.script.specs.declared.Writing.{Writing}
-use Rattle.script.specs.declared.Writing.TheVariants as Writing
 use Rattle.script.specs.File.{head_types, head_inputs, head_nodes, file_bytes}
 use Rattle.script.specs.Widths.{LentTables}
 use Rattle.script.specs.Tables.{Tables, tables_script, read_refusal, read_tables, write_refusal, written_output}

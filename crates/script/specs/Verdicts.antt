@@ -5,13 +5,9 @@ use Rattle.std.proofs.Math.Option.{Option, none, some}
 use Rattle.lambdamix.specs.Refusal.{Refusal}
 use Rattle.script.specs.declared.Counts.{Counts}
 use Rattle.script.specs.declared.Verdict.{Verdict}
-use Rattle.script.specs.declared.Verdict.TheVariants as Verdict
 use Rattle.script.specs.declared.Reading.{Reading}
-use Rattle.script.specs.declared.Reading.TheVariants as Reading
 use Rattle.script.specs.declared.Writing.{Writing}
-use Rattle.script.specs.declared.Writing.TheVariants as Writing
 use Rattle.script.specs.declared.Found.{Found}
-use Rattle.script.specs.declared.Found.TheVariants as Found
 use Rattle.script.specs.Tables.{room_refusal}
 use Rattle.script.specs.Replies.{WritesText}
 

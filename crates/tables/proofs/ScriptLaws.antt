@@ -26,7 +26,6 @@ use Rattle.script.specs.Verdicts.{found_at, refusal_of}
 use Rattle.script.specs.declared.Found.{Found}
 use Rattle.script.specs.declared.Refusal as Refused
 use Rattle.script.specs.declared.Verdict.{Verdict}
-use Rattle.script.specs.declared.Verdict.TheVariants as Verdict
 use Rattle.tables.specs.PackedTables.{HoldNodes, PackedNodes, PackedTables}
 use Rattle.script.proofs.RefusalLaws.{no_record, passes, neither, not_refused}
 use Rattle.script.proofs.Verdicts.{passed_tells_none}

@@ -4,7 +4,6 @@ use Rattle.std.proofs.Math.Option.{none}
 use Rattle.lambdamix.specs.Script.{Node}
 use Rattle.script.specs.declared.Found.{Found}
 use Rattle.script.specs.declared.Verdict.{Verdict}
-use Rattle.script.specs.declared.Verdict.TheVariants as Verdict
 use Rattle.script.specs.Verdicts.{found_at}
 use Rattle.script.specs.Tables.{Tables, row_node}
 use Rattle.script.specs.Words.{Packed}

@@ -1,6 +1,5 @@
 -- `annotation::typing::annotation_refusal` meets its contract: the root is answered under the inputs alone, on a stack with room for
 -- them and for a tree's height. Assumes nothing.
-use borrow.Author.Rules.{rules}
 use Prim.Native.Nat.{ℕ}
 use mathlib.Core.Path.{refl}
 use native.Mathlib.Omega.{arith}

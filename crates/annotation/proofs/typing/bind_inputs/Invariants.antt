@@ -1,9 +1,6 @@
 -- `annotation::typing::bind_inputs` meets its contract: the first j inputs are bound; the measure is what is left. Assumes nothing.
-use borrow.Author.Rules.{rules}
 use Prim.Native.Nat.{◌-◌, ◌≤◌}
-use mathlib.Core.Path.{◌≡◌}
-use native.Mathlib.Omega.{arith}
-use Rattle.annotation.proofs.Filling.{Binding, none_bound, one_bound, all_bound}
+use Rattle.annotation.proofs.Filling.{Binding}
 use Rattle.annotation.proofs.typing.bind_inputs.Given as goal
 
 abbrev pub invariant-loop-j : goal.invariant-loop-j

@@ -1,5 +1,4 @@
 -- `annotation::typing::enter` meets its contract: a binder goes on top, any other field is passed over. Assumes nothing.
-use borrow.Author.Rules.{rules}
 use Rattle.annotation.proofs.Recursion.{enter_binder, pass_over}
 use Rattle.annotation.proofs.typing.enter.Goals as goal
 

@@ -1,11 +1,8 @@
 -- `annotation::typing::function` meets its contract: the loop goes on while no place passed has the word; the measure is what is left
 -- of the list. Assumes nothing.
-use borrow.Author.Rules.{rules}
-use Prim.Native.Nat.{ℕ, ◌-◌, ◌≤◌, ◌<◌}
-use mathlib.Core.Path.{◌≡◌, sym, ◌∙◌}
+use mathlib.Core.Path.{sym, ◌∙◌}
 use native.Mathlib.Omega.{arith}
-use lib.ListN.{get_or}
-use borrow.Author.Count.{below_none, below_more}
+use borrow.Author.Count.{below_more}
 use Rattle.lambdamix.specs.Limits.{max_types}
 use Rattle.annotation.specs.Walks.{listed_at, not_listed}
 use Rattle.annotation.proofs.typing.function.Goals as goal

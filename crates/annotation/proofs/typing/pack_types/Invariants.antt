@@ -1,9 +1,6 @@
 -- `annotation::typing::pack_types` meets its contract: the first j words are packed; the measure is what is left. Assumes nothing.
-use borrow.Author.Rules.{rules}
 use Prim.Native.Nat.{◌-◌, ◌≤◌}
-use mathlib.Core.Path.{◌≡◌}
-use native.Mathlib.Omega.{arith}
-use Rattle.annotation.proofs.Filling.{Packing, none_packed, one_packed, all_packed}
+use Rattle.annotation.proofs.Filling.{Packing}
 use Rattle.annotation.proofs.typing.pack_types.Given as goal
 
 abbrev pub invariant-loop-j : goal.invariant-loop-j

@@ -1,5 +1,4 @@
 -- `annotation::typing::rule` meets its contract: the lowest fault goes first, else each arm is its kind's rule. Assumes nothing.
-use borrow.Author.Rules.{rules}
 use native.Mathlib.Omega.{arith}
 use Rattle.annotation.proofs.Rules.{NotAmong, past_all, fault_ruled, lift_ruled, function_ruled, apply_ruled, fix_ruled, if_ruled, operation_ruled}
 use Rattle.annotation.proofs.Rules.{late_ruled}

@@ -1,14 +1,8 @@
 -- `annotation::typing::variable` meets its contract: what is looked for among all binders is what is looked for among the first d; the
 -- measure is d. Assumes nothing.
-use borrow.Author.Rules.{rules}
-use Prim.Native.Nat.{ℕ, suc, ◌-◌, ◌<◌, ◌≤◌}
-use mathlib.Core.Path.{◌≡◌, refl, sym, ◌∙◌}
-use mathlib.Core.List.{List}
-use native.Mathlib.Omega.{arith}
-use lib.ListN.{get_or, length}
-use lib.Dec.{eqb}
-use borrow.Author.Tests.{eq-eqb, ne_eqb}
-use Rattle.annotation.specs.AnswerWords.{pick, high_half, low_half, type_answer}
+use Prim.Native.Nat.{◌≤◌}
+use mathlib.Core.Path.{◌≡◌}
+use lib.ListN.{length}
 use Rattle.annotation.specs.Walks.{bound}
 use Rattle.annotation.proofs.typing.variable.Given as goal
 

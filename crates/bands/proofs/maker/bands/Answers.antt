@@ -1,5 +1,4 @@
 -- `bands::maker::bands` meets its contract: by the verdict on the rows. Assumes nothing.
-use borrow.Author.Rules.{rules}
 use mathlib.Core.Path.{refl}
 use Rattle.script.proofs.Texts.{writes_passed, writes_refused}
 use Rattle.script.proofs.Verdicts.{passed_tells_none}

@@ -1,5 +1,4 @@
 -- `bands::maker::write_script` meets its contract: by the writer's entry. Assumes nothing.
-use borrow.Author.Rules.{rules}
 use mathlib.Core.Path.{refl}
 use native.Mathlib.Omega.{arith}
 use Rattle.bands.specs.Rows.{max_rows}

@@ -1,12 +1,7 @@
 -- `bands::nodes::fill_nodes` meets its contract: the loop fills. Assumes nothing.
 use Prim.Native.Nat.{◌-◌}
-use mathlib.Core.Path.{refl}
-use borrow.Author.Rules.{rules}
-use native.Mathlib.Omega.{arith}
-use Rattle.bands.specs.Rows.{max_rows}
-use Rattle.bands.specs.BandScript.{band_nodes}
 use Rattle.bands.specs.Calls.{columns_of}
-use Rattle.bands.proofs.Filling.{Filling, fill_begins, fill_goes_on, fill_ends}
+use Rattle.bands.proofs.Filling.{Filling}
 use Rattle.bands.proofs.nodes.fill_nodes.Given as goal
 
 abbrev pub invariant-loop-i : goal.invariant-loop-i

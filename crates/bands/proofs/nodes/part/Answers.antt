@@ -1,10 +1,9 @@
 -- `bands::nodes::part` meets its contract: by the number of the part. Assumes nothing.
 use mathlib.Core.Path.{ap, ◌∙◌}
-use native.Mathlib.Omega.{arith}
 use lib.IntN.{ℤ}
 use mir.Facts.{to_z-of_z}
 use Rattle.lambdamix.specs.Code.{node}
-use Rattle.bands.proofs.Numbering.{input_part, low_part, less_part, grade_part, lift_part, lift_deep}
+use Rattle.bands.proofs.Numbering.{input_part, low_part, less_part, grade_part, lift_part}
 use Rattle.bands.proofs.nodes.part.Goals as goal
 
 pub returns-in-0 : goal.returns-in-0

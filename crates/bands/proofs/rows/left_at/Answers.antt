@@ -1,5 +1,4 @@
 -- `bands::rows::left_at` meets its contract: before the first row stands the lowest reading. Assumes nothing.
-use borrow.Author.Rules.{rules}
 use mathlib.Core.Path.{refl, ◌∙◌}
 use mir.Syntax.{w32, w64}
 use mir.Facts.{to_z-of_z}

@@ -1,5 +1,4 @@
 -- `bands::rows::rows_refusal` meets its contract: by the verdicts of the three searches. Assumes nothing.
-use borrow.Author.Rules.{rules}
 use mathlib.Core.Path.{refl}
 use native.Mathlib.Omega.{arith}
 use Rattle.script.specs.Verdicts.{refusal_of}

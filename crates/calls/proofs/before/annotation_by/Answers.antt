@@ -9,7 +9,6 @@ use Rattle.lambdamix.specs.Checker.{annotation_refusal}
 use Rattle.script.specs.Verdicts.{refusal_of}
 use Rattle.script.proofs.ReplyLaws.{tells_refusal}
 use Rattle.lambdamix.specs.Specializing.{annotation_by}
-use borrow.Author.Rules.{rules}
 use Rattle.calls.proofs.before.annotation_by.Goals as goal
 
 bare-passes : (b : Mode) (s : Script) → b ≡ BareRun → none ≡ annotation_by b s

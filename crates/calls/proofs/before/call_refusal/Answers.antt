@@ -1,6 +1,5 @@
 -- `calls::before::call_refusal` meets its contract: the static inputs are what the settings are counted by. Assumes nothing.
 use Rattle.lambdamix.specs.Specializing.{call_refusal}
-use borrow.Author.Rules.{rules}
 use Rattle.calls.proofs.before.call_refusal.Goals as goal
 
 pub returns : goal.returns

@@ -1,8 +1,5 @@
 -- `file::writer::emit` meets its contract: part after part. Assumes nothing.
-use borrow.Author.Rules.{rules}
-use native.Mathlib.Omega.{arith}
 use Rattle.script.specs.Tables.{row_type, row_input, row_node}
-use Rattle.file.proofs.WritingLaws.{put_length}
 use Rattle.file.proofs.WriterLaws.{put_file}
 use Rattle.file.proofs.writer.emit.Goals as goal
 

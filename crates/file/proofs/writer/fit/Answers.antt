@@ -1,5 +1,4 @@
 -- `file::writer::fit` meets its contract: the size is the file's length. Assumes nothing.
-use borrow.Author.Rules.{rules}
 use mathlib.Core.Path.{refl, sym, ◌∙◌}
 use native.Mathlib.Omega.{arith}
 use Rattle.script.proofs.Texts.{text_fits, text_short}

@@ -1,5 +1,4 @@
 -- `file::writer::head_at` meets its contract: part after part. Assumes nothing.
-use borrow.Author.Rules.{rules}
 use mathlib.Core.Path.{refl}
 use native.Mathlib.Omega.{arith}
 use Rattle.lambdamix.specs.Text.{ascii}

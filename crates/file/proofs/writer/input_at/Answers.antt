@@ -1,5 +1,4 @@
 -- `file::writer::input_at` meets its contract: part after part. Assumes nothing.
-use borrow.Author.Rules.{rules}
 use mathlib.Core.Path.{refl}
 use Rattle.lambdamix.specs.Text.{ascii}
 use Rattle.script.specs.File.{input_bytes}

@@ -1,11 +1,8 @@
 -- `file::writer::inputs_at` meets its contract: before each turn the records so far stand in the output. Assumes nothing.
-use borrow.Author.Rules.{rules}
 use Prim.Native.Nat.{◌-◌}
-use native.Mathlib.Omega.{arith}
-use Rattle.script.specs.File.{input_bytes, input_offset}
 use Rattle.script.specs.Columns.{inputs_in}
 use Rattle.file.proofs.Layouts.{input_layout}
-use Rattle.file.proofs.WritingLaws.{Progress, put_same, progress_none, progress_more, progress_all}
+use Rattle.file.proofs.WritingLaws.{Progress}
 use Rattle.file.proofs.writer.inputs_at.Given as goal
 
 abbrev pub invariant-loop-j : goal.invariant-loop-j

@@ -1,5 +1,4 @@
 -- `file::writer::node_at` meets its contract: where there is room for all bytes, and where there is not. Assumes nothing.
-use borrow.Author.Rules.{rules}
 use mathlib.Core.Path.{ap, ◌∙◌}
 use native.Mathlib.Omega.{arith}
 use mir.Facts.{to_z-of_z}

@@ -1,9 +1,7 @@
 -- `file::writer::node_inside` meets its contract: part after part. Assumes nothing.
-use borrow.Author.Rules.{rules}
 use mathlib.Core.Path.{refl}
 use mathlib.Core.List.{[], ◌∷◌}
 use native.Mathlib.Omega.{arith}
-use lib.ListN.{length-set}
 use Rattle.lambdamix.specs.Text.{ascii}
 use Rattle.script.specs.Bytes.{bytes16}
 use Rattle.file.specs.Written.{node_parts}

@@ -1,11 +1,7 @@
 -- `file::writer::types_at` meets its contract: before each turn the records so far stand in the output. Assumes nothing.
-use borrow.Author.Rules.{rules}
-use Prim.Native.Nat.{◌-◌}
 use native.Mathlib.Omega.{arith}
 use Rattle.script.specs.File.{type_bytes, type_offset}
-use Rattle.script.specs.Columns.{types_in}
-use Rattle.file.proofs.Layouts.{type_layout}
-use Rattle.file.proofs.WritingLaws.{Progress, put_same, progress_none, progress_more, progress_all}
+use Rattle.file.proofs.WritingLaws.{put_same, progress_none, progress_more}
 use Rattle.file.proofs.writer.types_at.Goals as goal
 
 pub loop-j-init : goal.loop-j-init

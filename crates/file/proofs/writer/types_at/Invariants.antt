@@ -1,11 +1,8 @@
 -- `file::writer::types_at` meets its contract: before each turn the records so far stand in the output. Assumes nothing.
-use borrow.Author.Rules.{rules}
 use Prim.Native.Nat.{◌-◌}
-use native.Mathlib.Omega.{arith}
-use Rattle.script.specs.File.{type_bytes, type_offset}
 use Rattle.script.specs.Columns.{types_in}
 use Rattle.file.proofs.Layouts.{type_layout}
-use Rattle.file.proofs.WritingLaws.{Progress, put_same, progress_none, progress_more, progress_all}
+use Rattle.file.proofs.WritingLaws.{Progress}
 use Rattle.file.proofs.writer.types_at.Given as goal
 
 abbrev pub invariant-loop-j : goal.invariant-loop-j

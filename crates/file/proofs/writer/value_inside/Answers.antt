@@ -1,9 +1,6 @@
 -- `file::writer::value_inside` meets its contract: stores one after the other, each behind the last. Assumes nothing.
-use borrow.Author.Rules.{rules}
 use mathlib.Core.List.{[], ◌∷◌}
 use Prim.Native.Nat.{◌/◌, ◌%◌}
-use native.Mathlib.Omega.{arith}
-use lib.ListN.{length-set}
 use Rattle.script.specs.Bytes.{bytes32}
 use Rattle.file.proofs.WritingLaws.{put_places}
 use Rattle.file.proofs.writer.value_inside.Goals as goal

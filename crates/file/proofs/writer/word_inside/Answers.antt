@@ -1,9 +1,6 @@
 -- `file::writer::word_inside` meets its contract: one store behind the other. Assumes nothing.
-use borrow.Author.Rules.{rules}
 use mathlib.Core.List.{[], ◌∷◌}
 use Prim.Native.Nat.{◌/◌, ◌%◌}
-use native.Mathlib.Omega.{arith}
-use lib.ListN.{length-set}
 use Rattle.script.specs.Bytes.{bytes16}
 use Rattle.file.proofs.WritingLaws.{put_places}
 use Rattle.file.proofs.writer.word_inside.Goals as goal

@@ -1,5 +1,4 @@
 -- `file::writer::write` meets its contract: by the verdict on the tables. Assumes nothing.
-use borrow.Author.Rules.{rules}
 use mathlib.Core.Path.{refl}
 use Rattle.script.specs.Tables.{write_refusal}
 use Rattle.script.proofs.ReplyLaws.{tells_refusal}

@@ -1,5 +1,4 @@
 -- `reading::bytes::number16` meets its contract: the lower byte stands first. Assumes nothing.
-use borrow.Author.Rules.{rules}
 use native.Mathlib.Omega.{arith}
 use Rattle.script.specs.Bytes.{byte_at, number16}
 use Rattle.reading.proofs.WordLaws.{number16_past}

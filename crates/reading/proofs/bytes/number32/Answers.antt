@@ -1,5 +1,4 @@
 -- `reading::bytes::number32` meets its contract: the lower word stands first. Assumes nothing.
-use borrow.Author.Rules.{rules}
 use native.Mathlib.Omega.{arith}
 use Rattle.script.specs.Bytes.{number32}
 use Rattle.reading.proofs.WordLaws.{number32_past}

@@ -1,9 +1,8 @@
 -- `reading::fill::fill16` meets its contract: the loop fills. Assumes nothing.
-use Prim.Native.Nat.{◌+◌, ◌-◌, ◌*◌}
 use mathlib.Core.Path.{ap, ◌∙◌}
 use native.Mathlib.Omega.{arith}
 use Rattle.script.specs.Bytes.{number16}
-use Rattle.reading.proofs.Filling.{Filling, fill_begins, fill_goes_on, fill_ends, fill_length}
+use Rattle.reading.proofs.Filling.{fill_begins, fill_goes_on}
 use Rattle.reading.proofs.fill.fill16.Goals as goal
 
 pub loop-j-preserved : goal.loop-j-preserved

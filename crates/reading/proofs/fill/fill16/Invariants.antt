@@ -1,9 +1,7 @@
 -- `reading::fill::fill16` meets its contract: the loop fills. Assumes nothing.
 use Prim.Native.Nat.{◌+◌, ◌-◌, ◌*◌}
-use mathlib.Core.Path.{ap, ◌∙◌}
-use native.Mathlib.Omega.{arith}
 use Rattle.script.specs.Bytes.{number16}
-use Rattle.reading.proofs.Filling.{Filling, fill_begins, fill_goes_on, fill_ends, fill_length}
+use Rattle.reading.proofs.Filling.{Filling}
 use Rattle.reading.proofs.fill.fill16.Given as goal
 
 abbrev pub invariant-loop-j : goal.invariant-loop-j

@@ -1,11 +1,11 @@
 -- `reading::fill::fill32` meets its contract: the loop fills. Assumes nothing.
-use Prim.Native.Nat.{ℕ, ◌+◌, ◌-◌, ◌*◌}
+use Prim.Native.Nat.{ℕ}
 use mathlib.Core.Path.{ap, ◌∙◌}
 use native.Mathlib.Omega.{arith}
 use mir.Syntax.{w32}
 use mir.Facts.{to_z-of_z}
 use Rattle.script.specs.Bytes.{number32, signed32}
-use Rattle.reading.proofs.Filling.{Filling, fill_begins, fill_goes_on, fill_ends, fill_length}
+use Rattle.reading.proofs.Filling.{fill_begins, fill_goes_on}
 use Rattle.reading.proofs.fill.fill32.Goals as goal
 
 pub loop-j-preserved : goal.loop-j-preserved

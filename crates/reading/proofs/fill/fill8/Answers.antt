@@ -1,10 +1,10 @@
 -- `reading::fill::fill8` meets its contract: the loop fills. Assumes nothing.
-use Prim.Native.Nat.{ℕ, ◌+◌, ◌-◌, ◌*◌}
+use Prim.Native.Nat.{ℕ}
 use mathlib.Core.Path.{ap, ◌∙◌}
 use native.Mathlib.Omega.{arith}
 use lib.ListN.{get_or}
 use Rattle.script.specs.Bytes.{byte_at}
-use Rattle.reading.proofs.Filling.{Filling, fill_begins, fill_goes_on, fill_ends, fill_length}
+use Rattle.reading.proofs.Filling.{fill_begins, fill_goes_on}
 use Rattle.reading.proofs.fill.fill8.Goals as goal
 
 pub loop-j-preserved : goal.loop-j-preserved

@@ -1,10 +1,7 @@
 -- `reading::fill::fill8` meets its contract: the loop fills. Assumes nothing.
-use Prim.Native.Nat.{ℕ, ◌+◌, ◌-◌, ◌*◌}
-use mathlib.Core.Path.{ap, ◌∙◌}
-use native.Mathlib.Omega.{arith}
-use lib.ListN.{get_or}
+use Prim.Native.Nat.{◌+◌, ◌-◌, ◌*◌}
 use Rattle.script.specs.Bytes.{byte_at}
-use Rattle.reading.proofs.Filling.{Filling, fill_begins, fill_goes_on, fill_ends, fill_length}
+use Rattle.reading.proofs.Filling.{Filling}
 use Rattle.reading.proofs.fill.fill8.Given as goal
 
 abbrev pub invariant-loop-j : goal.invariant-loop-j

@@ -1,5 +1,4 @@
 -- `reading::marks::marked` meets its contract. Assumes nothing.
-use borrow.Author.Rules.{rules}
 use borrow.Author.Tests.{eq-eqb, ne_eqb}
 use Rattle.script.specs.Bytes.{byte_at}
 use Rattle.script.specs.Refusals.{marked}

@@ -1,12 +1,11 @@
 -- `reading::marks::unmarked` meets its contract: the loop searches. Assumes nothing.
-use Prim.Native.Nat.{ℕ, ◌+◌, ◌-◌, ◌*◌}
+use Prim.Native.Nat.{ℕ}
 use mathlib.Core.Path.{◌≡◌, sym, ap, ◌∙◌}
 use mathlib.Core.Bool.{Bool}
 use mathlib.Core.List.{List}
-use native.Mathlib.Omega.{arith}
 use Rattle.script.specs.Refusals.{marked, refused_record}
 use Rattle.script.specs.Verdicts.{refusal_of}
-use Rattle.script.proofs.Searching.{Searching, search_begins, search_goes_on, search_finds, search_ends}
+use Rattle.script.proofs.Searching.{search_goes_on, search_finds, search_ends}
 use Rattle.reading.proofs.marks.unmarked.Goals as goal
 
 -- what is told of a record's mark is told at its place

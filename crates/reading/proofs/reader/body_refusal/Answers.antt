@@ -1,5 +1,5 @@
 -- `reading::reader::body_refusal` meets its contract: its own columns hold the file's script. Assumes nothing.
-use mathlib.Core.Path.{refl, sym}
+use mathlib.Core.Path.{refl}
 use Rattle.lambdamix.specs.Limits.{max_types, max_inputs, max_nodes}
 use Rattle.script.proofs.ReplyLaws.{tells_refusal}
 use Rattle.reading.proofs.ReaderLaws.{own_fits, body_by_tables}

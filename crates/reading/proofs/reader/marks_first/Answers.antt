@@ -1,5 +1,4 @@
 -- `reading::reader::marks_first` meets its contract. Assumes nothing.
-use borrow.Author.Rules.{rules}
 use borrow.Author.Tests.{lt-ltb, le-ltb}
 use Rattle.script.specs.Refusals.{earlier_by}
 use Rattle.script.specs.Verdicts.{refusal_of}

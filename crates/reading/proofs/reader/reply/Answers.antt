@@ -1,5 +1,4 @@
 -- `reading::reader::reply` meets its contract: the file's verdict, then the lengths of the columns. Assumes nothing.
-use borrow.Author.Rules.{rules}
 use Rattle.script.proofs.ReplyLaws.{tells_refusal}
 use Rattle.reading.proofs.ReaderLaws.{refused_read, passed_read, short_read, long_told}
 use Rattle.reading.proofs.reader.reply.Goals as goal

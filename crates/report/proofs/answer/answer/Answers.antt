@@ -1,11 +1,10 @@
 -- `report::answer::answer` meets its contract: by the reader's answer, on tables that are long enough. Assumes nothing.
-use mathlib.Core.Path.{refl, sym}
+use mathlib.Core.Path.{refl}
 use native.Mathlib.Omega.{arith}
 use Rattle.lambdamix.specs.Limits.{max_types, max_inputs, max_nodes}
 use Rattle.script.specs.Columns.{enough}
 use Rattle.script.specs.Bytes.{byte_at}
 use Rattle.script.specs.Tables.{long_enough}
-use Rattle.streams.proofs.Splitting.{from_start, end_within}
 use Rattle.streams.proofs.Responding.{input_answered}
 use Rattle.report.proofs.Answering.{tells_refused}
 use Rattle.report.proofs.answer.answer.Goals as goal

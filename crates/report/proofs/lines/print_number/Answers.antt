@@ -2,7 +2,6 @@
 use mir.Facts.{to_z-of_z}
 use Rattle.lambdamix.specs.Text.{ascii}
 use Rattle.report.proofs.Fitting.{line_placed}
-use borrow.Author.Rules.{rules}
 use Rattle.report.proofs.lines.print_number.Goals as goal
 
 pub returns : goal.returns

@@ -5,7 +5,6 @@ use Rattle.script.proofs.SignedBits.{read}
 use Rattle.plainrun.specs.Running.{replied}
 use Rattle.report.specs.Report.{outcome_text, reply_text}
 use Rattle.report.proofs.Fitting.{prints_line, prints_number}
-use borrow.Author.Rules.{rules}
 use Rattle.report.proofs.lines.print_reply.Goals as goal
 
 pub returns-in-Number : goal.returns-in-Number

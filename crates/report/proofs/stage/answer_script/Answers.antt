@@ -1,7 +1,6 @@
 -- `report::stage::answer_script` meets its contract: by the reader's answer. Assumes nothing.
-use Rattle.streams.proofs.Responding.{answered_read, answered_refused}
+use Rattle.streams.proofs.Responding.{answered_read}
 use Rattle.report.proofs.Answering.{answered_ran}
-use borrow.Author.Rules.{rules}
 use Rattle.report.proofs.stage.answer_script.Goals as goal
 
 pub returns-in-Read : goal.returns-in-Read

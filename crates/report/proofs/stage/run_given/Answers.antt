@@ -5,7 +5,6 @@ use Rattle.lambdamix.specs.Limits.{max_inputs, max_fuel}
 use Rattle.streams.specs.Given.{program_settings}
 use Rattle.streams.proofs.Splitting.{given_most}
 use Rattle.report.proofs.Answering.{runs_given}
-use borrow.Author.Rules.{rules}
 use Rattle.report.proofs.stage.run_given.Goals as goal
 
 pub slice_bounds-run-end : goal.slice_bounds-run-end

@@ -1,8 +1,8 @@
 -- `respond::stage::answer_script` meets its contract: by the reader's answer and the maker's reply. Assumes nothing.
-use mathlib.Core.Path.{refl, sym}
+use mathlib.Core.Path.{refl}
 use Rattle.lambdamix.specs.Limits.{max_bytes}
 use Rattle.respond.proofs.Answering.{answered_unmade, answered_made}
-use Rattle.streams.proofs.Responding.{answered_read, answered_refused}
+use Rattle.streams.proofs.Responding.{answered_read}
 use Rattle.respond.proofs.stage.answer_script.Goals as goal
 
 pub returns-in-Unmade : goal.returns-in-Unmade

@@ -1,11 +1,6 @@
 -- `respond::stage::list_at` meets its contract. Assumes nothing.
-use Prim.Native.Nat.{◌-◌}
-use native.Mathlib.Nat.{le_refl}
-use lib.ListN.{length}
-use borrow.Rule.Slice.PartMut.{same_len_mid}
-use Rattle.streams.proofs.Splitting.{end_within}
 use Rattle.respond.proofs.Listed.{lists_at, lists_never}
-use Rattle.respond.proofs.Holding.{listed_read, listed_never}
+use Rattle.respond.proofs.Holding.{listed_read}
 use Rattle.respond.proofs.stage.list_at.Goals as goal
 
 pub returns-in-Written : goal.returns-in-Written

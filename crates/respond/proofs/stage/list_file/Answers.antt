@@ -1,5 +1,5 @@
 -- `respond::stage::list_file` meets its contract: by the reader's answer, on tables that are long enough. Assumes nothing.
-use mathlib.Core.Path.{refl, sym}
+use mathlib.Core.Path.{refl}
 use native.Mathlib.Omega.{arith}
 use Rattle.lambdamix.specs.Limits.{max_types, max_inputs, max_nodes}
 use Rattle.script.specs.Columns.{enough}

@@ -6,7 +6,6 @@ use Rattle.cells.specs.Room.{suffices, stores_suffice}
 use Rattle.streams.specs.Given.{program_settings}
 use Rattle.streams.proofs.Splitting.{given_most}
 use Rattle.respond.proofs.Settings.{makes_given}
-use borrow.Author.Rules.{rules}
 use Rattle.respond.proofs.stage.make_given.Goals as goal
 
 pub slice_bounds-make-end : goal.slice_bounds-make-end

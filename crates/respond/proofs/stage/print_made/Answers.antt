@@ -1,6 +1,5 @@
 -- `respond::stage::print_made` meets its contract: the counts, then the listing of the file. Assumes nothing.
 use Rattle.respond.proofs.Holding.{made_printed}
-use borrow.Author.Rules.{rules}
 use Rattle.respond.proofs.stage.print_made.Goals as goal
 
 pub returns : goal.returns

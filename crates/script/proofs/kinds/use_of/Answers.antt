@@ -1,6 +1,5 @@
 -- `script::kinds::use_of` meets its contract: the code's table and the definition's have the same rows, and past their ends
 -- nothing is read. Assumes nothing.
-use borrow.Author.Rules.{rules}
 use mathlib.Core.Path.{refl, sym}
 use Rattle.lambdamix.specs.Script.{rows}
 use Rattle.script.specs.Kinds.{use_of, uses_table}

@@ -1,5 +1,4 @@
 -- `script::limits::counts_right` meets its contract: each count that leaves its limit fails the test, whatever the others are. Assumes nothing.
-use borrow.Author.Rules.{rules}
 use Prim.Native.Nat.{ℕ, ◌≤◌}
 use mathlib.Core.Path.{◌≡◌}
 use lib.Dec.{leb}

@@ -1,5 +1,4 @@
 -- `script::place::file_size` meets its contract. Assumes nothing.
-use borrow.Author.Rules.{rules}
 use native.Mathlib.Omega.{arith}
 use Rattle.script.specs.File.{node_offset, file_length}
 use Rattle.script.proofs.place.file_size.Goals as goal

@@ -1,5 +1,4 @@
 -- `script::place::input_offset` meets its contract. Assumes nothing.
-use borrow.Author.Rules.{rules}
 use native.Mathlib.Omega.{arith}
 use Rattle.script.specs.File.{input_offset}
 use Rattle.script.proofs.place.input_offset.Goals as goal

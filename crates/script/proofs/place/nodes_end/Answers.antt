@@ -1,5 +1,4 @@
 -- `script::place::nodes_end` meets its contract. Assumes nothing.
-use borrow.Author.Rules.{rules}
 use native.Mathlib.Omega.{arith}
 use Rattle.script.specs.File.{node_offset}
 use Rattle.script.proofs.place.nodes_end.Goals as goal

@@ -1,5 +1,4 @@
 -- `script::place::type_offset` meets its contract. Assumes nothing.
-use borrow.Author.Rules.{rules}
 use native.Mathlib.Omega.{arith}
 use Rattle.script.specs.File.{type_offset}
 use Rattle.script.proofs.place.type_offset.Goals as goal

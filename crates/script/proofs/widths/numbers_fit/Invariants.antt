@@ -1,12 +1,8 @@
 -- `script::widths::numbers_fit` meets its contract: a number that was read has 32 bits. Assumes nothing.
 use Prim.Native.Nat.{ℕ, ◌-◌, ◌≤◌, ◌<◌}
-use mathlib.Core.Path.{subst}
-use native.Mathlib.Omega.{arith}
 use lib.IntN.{pos}
 use lib.ListN.{length, get_or}
 use Rattle.lambdamix.specs.Arithmetic.{Fits32}
-use Rattle.script.proofs.ColumnWidths.{one_more_fits, all_fit}
-use borrow.Author.Rules.{rules}
 use Rattle.script.proofs.widths.numbers_fit.Given as goal
 
 abbrev pub invariant-loop-i : goal.invariant-loop-i

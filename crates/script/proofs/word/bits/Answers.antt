@@ -1,8 +1,7 @@
 -- `script::word::bits` meets its contract: the bits of a number below 0 are the number plus 2 ^ 32. Assumes nothing.
 use mathlib.Core.Path.{ap}
 use lib.IntN.{nat_abs}
-use Rattle.lambdamix.proofs.Signed.{widens}
-use Rattle.script.proofs.SignedBits.{sum_fits, below_zero, from_zero, castable}
+use Rattle.script.proofs.SignedBits.{below_zero, from_zero}
 use Rattle.script.proofs.word.bits.Goals as goal
 
 pub returns-then-z-lt0 : goal.returns-then-z-lt0

@@ -1,5 +1,4 @@
 -- `script::word::field_a` meets its contract: the code is the definition. Assumes nothing.
-use borrow.Author.Rules.{rules}
 use mathlib.Core.Path.{refl}
 use Rattle.script.specs.Words.{word_a}
 use Rattle.script.proofs.word.field_a.Goals as goal

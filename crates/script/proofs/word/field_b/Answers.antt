@@ -1,5 +1,4 @@
 -- `script::word::field_b` meets its contract: the code is the definition. Assumes nothing.
-use borrow.Author.Rules.{rules}
 use mathlib.Core.Path.{refl}
 use Rattle.script.specs.Words.{word_b}
 use Rattle.script.proofs.word.field_b.Goals as goal

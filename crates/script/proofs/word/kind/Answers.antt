@@ -1,5 +1,4 @@
 -- `script::word::kind` meets its contract: the code is the definition. Assumes nothing.
-use borrow.Author.Rules.{rules}
 use mathlib.Core.Path.{refl}
 use Rattle.script.specs.Words.{word_kind}
 use Rattle.script.proofs.word.kind.Goals as goal

@@ -1,5 +1,4 @@
 -- `script::word::pack_node` meets its contract: a constant is its bits, any other node its kind over its fields. Assumes nothing.
-use borrow.Author.Rules.{rules}
 use mathlib.Core.Path.{ap, ◌∙◌}
 use mir.Facts.{to_z-of_z}
 use Rattle.script.specs.Bytes.{bits32}

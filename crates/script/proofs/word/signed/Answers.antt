@@ -1,6 +1,5 @@
 -- `script::word::signed` meets its contract: from 2 ^ 31 on, bits stand for the number 2 ^ 32 lower. Assumes nothing.
-use borrow.Author.Rules.{rules}
-use Rattle.script.proofs.SignedBits.{upper_half, difference_fits, narrowed_fits, lower_half}
+use Rattle.script.proofs.SignedBits.{upper_half, lower_half}
 use Rattle.script.proofs.word.signed.Goals as goal
 
 pub returns-then-n-lt-SIGNED_LIMIT : goal.returns-then-n-lt-SIGNED_LIMIT

@@ -1,5 +1,4 @@
 -- `script::word::word` meets its contract: the code is the definition. Assumes nothing.
-use borrow.Author.Rules.{rules}
 use mathlib.Core.Path.{refl}
 use Rattle.script.specs.Words.{word}
 use Rattle.script.proofs.word.word.Goals as goal

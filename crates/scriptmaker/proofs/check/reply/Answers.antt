@@ -1,5 +1,4 @@
 -- `scriptmaker::check::reply` meets its contract, case by case. Assumes nothing.
-use borrow.Author.Rules.{rules}
 use Rattle.script.specs.Replies.{verdict_reply}
 use Rattle.scriptmaker.specs.Calls.{check_reply}
 use Rattle.scriptmaker.proofs.check.reply.Goals as goal

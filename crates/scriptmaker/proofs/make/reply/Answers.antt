@@ -1,5 +1,4 @@
 -- `scriptmaker::make::reply` meets its contract, case by case. Assumes nothing.
-use borrow.Author.Rules.{rules}
 use Rattle.residual.specs.AfterRun.{number_in, place_in, steps_in, nodes_in, replied}
 use Rattle.scriptmaker.specs.Calls.{make_reply}
 use Rattle.scriptmaker.proofs.make.reply.Goals as goal

@@ -1,5 +1,4 @@
 -- `scriptmaker::read::reply` meets its contract, case by case. Assumes nothing.
-use borrow.Author.Rules.{rules}
 use Rattle.script.specs.Replies.{reading_reply}
 use Rattle.scriptmaker.specs.Calls.{read_reply, counts_in}
 use Rattle.scriptmaker.proofs.read.reply.Goals as goal

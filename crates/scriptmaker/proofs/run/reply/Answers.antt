@@ -2,7 +2,6 @@
 use Rattle.script.proofs.SignedBits.{read}
 use Rattle.plainrun.specs.Running.{number_in, place_in, steps_in, function_in, value_in, replied}
 use Rattle.scriptmaker.specs.Calls.{run_reply}
-use borrow.Author.Rules.{rules}
 use Rattle.scriptmaker.proofs.run.reply.Goals as goal
 
 pub returns-in-Number : goal.returns-in-Number

@@ -1,5 +1,4 @@
 -- `scriptmaker::write::reply` meets its contract, case by case. Assumes nothing.
-use borrow.Author.Rules.{rules}
 use Rattle.script.specs.Replies.{writing_reply}
 use Rattle.scriptmaker.specs.Calls.{write_reply, length_in}
 use Rattle.scriptmaker.proofs.write.reply.Goals as goal

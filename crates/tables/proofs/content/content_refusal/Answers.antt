@@ -1,5 +1,4 @@
 -- `tables::content::content_refusal` meets its contract: the counts, then three searches. Assumes nothing.
-use borrow.Author.Rules.{rules}
 use mathlib.Core.Path.{sym, ◌∙◌}
 use native.Mathlib.Omega.{arith}
 use Rattle.lambdamix.specs.Limits.{max_types, max_inputs, max_nodes}
@@ -62,6 +61,6 @@ returns-then-counts_right c =
 pub returns-else-counts_right : goal.returns-else-counts_right
 unfolding refusal_of
 returns-else-counts_right c = record {
-      reply = wrong_counts _ _ _ _ (sym c.counts_right.ensures ∙ c.if-counts_right.false);
-      packed = not_packed;
-    }
+  reply = wrong_counts _ _ _ _ (sym c.counts_right.ensures ∙ c.if-counts_right.false);
+  packed = not_packed;
+}

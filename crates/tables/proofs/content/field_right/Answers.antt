@@ -1,5 +1,4 @@
 -- `tables::content::field_right` meets its contract: each arm is the definition's test for that use. Assumes nothing.
-use borrow.Author.Rules.{rules}
 use Rattle.script.specs.Refusals.{field_right}
 use Rattle.tables.proofs.content.field_right.Goals as goal
 

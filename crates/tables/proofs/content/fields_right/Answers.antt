@@ -1,5 +1,4 @@
 -- `tables::content::fields_right` meets its contract: the fields are tested one by one. Assumes nothing.
-use borrow.Author.Rules.{rules}
 use mathlib.Core.Path.{refl}
 use Rattle.tables.proofs.ContentLaws.{row_test}
 use Rattle.tables.proofs.content.fields_right.Goals as goal

@@ -1,11 +1,8 @@
 -- `tables::content::first_bad_input` meets its contract: the loop searches. Assumes nothing.
 use Prim.Native.Nat.{◌-◌}
-use mathlib.Core.Path.{sym, ◌∙◌}
-use native.Mathlib.Omega.{arith}
 use Rattle.script.specs.Columns.{inputs_in}
 use Rattle.script.specs.Refusals.{input_fits}
-use Rattle.script.specs.Verdicts.{found_at}
-use Rattle.script.proofs.Searching.{Searching, search_begins, search_goes_on, search_finds, search_ends}
+use Rattle.script.proofs.Searching.{Searching}
 use Rattle.tables.proofs.content.first_bad_input.Given as goal
 
 abbrev pub invariant-loop-j : goal.invariant-loop-j

@@ -1,20 +1,16 @@
 -- `tables::content::first_bad_node` meets its contract: the loop searches, and packs the nodes before j. Assumes nothing.
-use Prim.Native.Nat.{ℕ, ◌+◌, ◌-◌, ◌*◌, ◌<◌, ◌≤◌}
+use Prim.Native.Nat.{ℕ, ◌+◌, ◌*◌, ◌<◌, ◌≤◌}
 use mathlib.Core.Path.{◌≡◌, refl}
-use native.Mathlib.Nat.{lt_of_lt_of_le}
 use native.Mathlib.Omega.{arith}
-use lib.ListN.{length, length-set}
+use lib.ListN.{length-set}
 use mir.Syntax.{w16, w32, w64}
 use mir.Val.{Fits}
 use mir.Facts.{to_z-of_z}
 use Rattle.lambdamix.specs.Limits.{max_nodes}
-use Rattle.script.specs.Columns.{nodes_in}
-use Rattle.script.specs.Refusals.{node_fits}
 use Rattle.script.specs.Verdicts.{found_at}
-use Rattle.script.specs.Words.{Packed}
-use Rattle.script.proofs.WordLaws.{holds_row, packed_none, packed_more}
+use Rattle.script.proofs.WordLaws.{holds_row, packed_more}
 use Rattle.tables.proofs.ContentLaws.{node_told}
-use Rattle.script.proofs.Searching.{Searching, search_begins, search_goes_on, search_finds, search_ends}
+use Rattle.script.proofs.Searching.{search_goes_on, search_finds, search_ends}
 use Rattle.tables.proofs.content.first_bad_node.Goals as goal
 
 -- the number after a node's has 16 bits, and its place and those of its parts fit a word
@@ -65,6 +61,6 @@ returns-else-node_right c =
 pub returns : goal.returns
 unfolding found_at
 returns c = record {
-      found = search_ends _ c.loop-j.invariant.0 c.loop-j-test.false;
-      packed = record { all = λ e. record { each = λ i l. c.loop-j.invariant.1.0.each i (omega (arith, c.loop-j-test.false)) } };
-    }
+  found = search_ends _ c.loop-j.invariant.0 c.loop-j-test.false;
+  packed = record { all = λ e. record { each = λ i l. c.loop-j.invariant.1.0.each i (omega (arith, c.loop-j-test.false)) } };
+}

@@ -1,5 +1,4 @@
 -- `tables::content::input_right` meets its contract. Assumes nothing.
-use borrow.Author.Rules.{rules}
 use Rattle.script.specs.Refusals.{input_fits}
 use Rattle.tables.proofs.content.input_right.Goals as goal
 

@@ -1,8 +1,7 @@
 -- `tables::content::node_right` meets its contract: 0 and 1 by their rows, the rest by their range. Assumes nothing.
-use borrow.Author.Rules.{rules}
 use mathlib.Core.Path.{refl, ◌∙◌}
 use native.Mathlib.Omega.{arith}
-use Rattle.tables.proofs.ContentLaws.{of_kind, of_constant, held_value, wrong_kind}
+use Rattle.tables.proofs.ContentLaws.{of_kind, of_constant, wrong_kind}
 use Rattle.tables.proofs.content.node_right.Goals as goal
 
 pub returns-in-0 : goal.returns-in-0

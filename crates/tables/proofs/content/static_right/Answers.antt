@@ -1,5 +1,4 @@
 -- `tables::content::static_right` meets its contract: what holds by the named row holds of the kind, which is one of six. Assumes nothing.
-use borrow.Author.Rules.{rules}
 use mathlib.Core.Path.{refl, ◌∙◌}
 use native.Mathlib.Omega.{arith}
 use Rattle.tables.proofs.ContentLaws.{of_kind}

@@ -1,5 +1,4 @@
 -- `tables::content::type_right` meets its contract: the two parts, then the search for the same pair. Assumes nothing.
-use borrow.Author.Rules.{rules}
 use native.Mathlib.Omega.{arith}
 use Rattle.script.specs.Refusals.{is_none}
 use Rattle.script.specs.Verdicts.{found_at}

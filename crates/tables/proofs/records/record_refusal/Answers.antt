@@ -1,5 +1,4 @@
 -- `tables::records::record_refusal` meets its contract: the first search that found something tells the place. Assumes nothing.
-use borrow.Author.Rules.{rules}
 use mathlib.Core.Path.{ap}
 use native.Mathlib.Omega.{arith}
 use Rattle.lambdamix.specs.Refusal.{or_else}

@@ -1,5 +1,4 @@
 -- `tables::refusal::long_enough` meets its contract: the tests of the definition, in its order. Assumes nothing.
-use borrow.Author.Rules.{rules}
 use Rattle.tables.proofs.ScriptLaws.{short_types, short_inputs, short_kinds, short_fields, last_test}
 use Rattle.tables.proofs.refusal.long_enough.Goals as goal
 

@@ -1,5 +1,4 @@
 -- `tables::refusal::packed_refusal` meets its contract: short tables before all else. Assumes nothing.
-use borrow.Author.Rules.{rules}
 use Rattle.tables.proofs.ScriptLaws.{long_holds, tables_short, tables_long, not_packed}
 use Rattle.tables.proofs.refusal.packed_refusal.Goals as goal
 
@@ -15,9 +14,9 @@ returns-then-long_enough c =
 
 pub returns-else-long_enough : goal.returns-else-long_enough
 returns-else-long_enough c = record {
-      reply = tables_short _ _ _ _ c.long_enough.ensures c.if-long_enough.false;
-      packed = not_packed;
-    }
+  reply = tables_short _ _ _ _ c.long_enough.ensures c.if-long_enough.false;
+  packed = not_packed;
+}
 
 pub script_refusal-requires : goal.script_refusal-requires
 script_refusal-requires c =

@@ -1,5 +1,4 @@
 -- `tables::refusal::script_refusal` meets its contract: contents, then structure on words that hold the nodes. Assumes nothing.
-use borrow.Author.Rules.{rules}
 use Rattle.tables.proofs.ScriptLaws.{refused_by_content, refused_by_structure, packed_by_content, not_packed}
 use Rattle.tables.proofs.refusal.script_refusal.Goals as goal
 

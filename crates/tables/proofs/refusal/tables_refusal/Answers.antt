@@ -1,5 +1,4 @@
 -- `tables::refusal::tables_refusal` meets its contract: its own words are as many as the nodes, or as a script may have. Assumes nothing.
-use borrow.Author.Rules.{rules}
 use Prim.Native.Nat.{ℕ}
 use native.Mathlib.Omega.{arith}
 use lib.ListN.{length-replicate}

@@ -1,5 +1,4 @@
 -- `walks::structure::count_field` meets its contract: a field that is no child counts nothing. Assumes nothing.
-use borrow.Author.Rules.{rules}
 use mathlib.Core.Path.{sym, ◌∙◌}
 use Rattle.walks.specs.Walks.{kept_if}
 use Rattle.lambdamix.specs.Structure.{occurrences}

@@ -1,5 +1,4 @@
 -- `walks::structure::count_fields` meets its contract: the three fields are counted one after the other. Assumes nothing.
-use borrow.Author.Rules.{rules}
 use Rattle.walks.proofs.UseCounts.{counted_fields}
 use Rattle.walks.proofs.structure.count_fields.Goals as goal
 

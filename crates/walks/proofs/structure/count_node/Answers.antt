@@ -1,5 +1,4 @@
 -- `walks::structure::count_node` meets its contract: each arm reads the row of its own kind. Assumes nothing.
-use borrow.Author.Rules.{rules}
 use native.Mathlib.Omega.{arith}
 use Rattle.lambdamix.specs.Structure.{occurrences}
 use Rattle.script.proofs.TableLaws.{Other}

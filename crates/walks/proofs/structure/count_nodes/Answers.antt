@@ -1,10 +1,6 @@
 -- `walks::structure::count_nodes` meets its contract. The invariant: the uses by the nodes before i are counted. Assumes nothing.
 use borrow.Author.Rules.{rules}
-use Prim.Native.Nat.{◌≤◌, ◌-◌}
-use mathlib.Core.Path.{◌≡◌, sym}
-use native.Mathlib.Omega.{arith}
-use Rattle.script.specs.Words.{columns_in}
-use Rattle.walks.specs.Walks.{uses_below, Counted}
+use Rattle.walks.specs.Walks.{uses_below}
 use Rattle.walks.proofs.UseCounts.{counted_none, counted_node}
 use Rattle.walks.proofs.structure.count_nodes.Goals as goal
 

@@ -1,5 +1,4 @@
 -- `walks::structure::count_one` meets its contract: the node's count grows by one unless it is two already. Assumes nothing.
-use borrow.Author.Rules.{rules}
 use native.Mathlib.Omega.{arith}
 use Rattle.walks.proofs.UseCounts.{counted_more, counted_full}
 use Rattle.walks.proofs.structure.count_one.Goals as goal

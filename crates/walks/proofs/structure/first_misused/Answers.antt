@@ -1,5 +1,4 @@
 -- `walks::structure::first_misused` meets its contract: a capped count is one where the node is used once. Assumes nothing.
-use borrow.Author.Rules.{rules}
 use mathlib.Core.Path.{◌∙◌}
 use native.Mathlib.Omega.{arith}
 use Rattle.lambdamix.specs.Limits.{max_nodes}

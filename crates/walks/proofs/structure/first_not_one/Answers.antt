@@ -1,12 +1,8 @@
 -- `walks::structure::first_not_one` meets its contract: the loop searches. Assumes nothing.
-use borrow.Author.Rules.{rules}
 use borrow.Author.Tests.{ne_eqb, eq-eqb}
-use Prim.Native.Nat.{◌-◌}
 use mathlib.Core.Path.{sym, ◌∙◌}
-use lib.ListN.{get_or}
-use lib.Dec.{eqb}
 use Rattle.script.specs.Verdicts.{found_at}
-use Rattle.script.proofs.Searching.{Searching, search_begins, search_goes_on, search_finds, search_ends}
+use Rattle.script.proofs.Searching.{search_goes_on, search_finds, search_ends}
 use Rattle.walks.proofs.structure.first_not_one.Goals as goal
 
 pub returns-then-at8-ne1 : goal.returns-then-at8-ne1

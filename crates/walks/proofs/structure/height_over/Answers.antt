@@ -1,5 +1,4 @@
 -- `walks::structure::height_over` meets its contract: the node's own height, and the lower of the places. Assumes nothing.
-use borrow.Author.Rules.{rules}
 use native.Mathlib.Omega.{arith}
 use Rattle.lambdamix.specs.Limits.{max_height}
 use Rattle.walks.proofs.Heights.{node_low, node_crosses, node_passes_on, node_keeps_own}

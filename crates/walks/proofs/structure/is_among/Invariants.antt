@@ -1,13 +1,8 @@
 -- `walks::structure::is_among` meets its contract. The invariant: whether the name is among the first d is known. Assumes nothing.
-use borrow.Author.Rules.{rules}
 use Prim.Native.Nat.{◌≤◌, ◌-◌}
-use mathlib.Core.Path.{◌≡◌, sym}
-use mathlib.Core.Logic.{⊎_elim}
-use native.Mathlib.Omega.{arith}
-use Rattle.lambdamix.specs.Limits.{max_height}
+use mathlib.Core.Path.{◌≡◌}
 use Rattle.lambdamix.specs.Structure.{member}
 use Rattle.walks.specs.Walks.{innermost}
-use Rattle.walks.proofs.Scopes.{found_here, found_before}
 use Rattle.walks.proofs.structure.is_among.Given as goal
 
 abbrev pub invariant-loop-d : goal.invariant-loop-d

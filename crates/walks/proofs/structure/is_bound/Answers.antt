@@ -1,8 +1,7 @@
 -- `walks::structure::is_bound` meets its contract. The invariant: the name is not among the first d. Assumes nothing.
-use borrow.Author.Rules.{rules}
-use Prim.Native.Nat.{◌+◌, ◌≤◌, ◌-◌}
+use Prim.Native.Nat.{◌+◌, ◌-◌}
 use mathlib.Core.Path.{◌≡◌, refl, sym, subst, ◌∙◌}
-use mathlib.Core.Bool.{true, false}
+use mathlib.Core.Bool.{true}
 use native.Mathlib.Omega.{arith}
 use Rattle.lambdamix.specs.Structure.{member}
 use Rattle.walks.specs.Walks.{innermost}

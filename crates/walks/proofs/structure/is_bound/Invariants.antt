@@ -1,12 +1,9 @@
 -- `walks::structure::is_bound` meets its contract. The invariant: the name is not among the first d. Assumes nothing.
-use borrow.Author.Rules.{rules}
-use Prim.Native.Nat.{◌+◌, ◌≤◌, ◌-◌}
-use mathlib.Core.Path.{◌≡◌, refl, sym, subst, ◌∙◌}
-use mathlib.Core.Bool.{true, false}
-use native.Mathlib.Omega.{arith}
+use Prim.Native.Nat.{◌≤◌, ◌-◌}
+use mathlib.Core.Path.{◌≡◌}
+use mathlib.Core.Bool.{false}
 use Rattle.lambdamix.specs.Structure.{member}
 use Rattle.walks.specs.Walks.{innermost}
-use Rattle.walks.proofs.Scopes.{found_further}
 use Rattle.walks.proofs.structure.is_bound.Given as goal
 
 abbrev pub invariant-loop-d : goal.invariant-loop-d

@@ -1,8 +1,6 @@
 -- `walks::structure::put_binder` meets its contract: a binder's name stands after those around it. Assumes nothing.
-use borrow.Author.Rules.{rules}
 use mathlib.Core.Path.{sym, ◌∙◌}
 use native.Mathlib.Omega.{arith}
-use Rattle.lambdamix.specs.Limits.{max_height}
 use Rattle.walks.proofs.Scopes.{entered_binder, entered_other}
 use Rattle.walks.proofs.structure.put_binder.Goals as goal
 

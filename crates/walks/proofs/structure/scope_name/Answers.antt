@@ -1,7 +1,5 @@
 -- `walks::structure::scope_name` meets its contract: the definition's tests in turn. Assumes nothing.
-use borrow.Author.Rules.{rules}
 use borrow.Author.Tests.{lt-ltb, le-ltb}
-use native.Mathlib.Omega.{arith}
 use mathlib.Core.Path.{refl, sym, ◌∙◌}
 use Rattle.lambdamix.specs.Structure.{unless_bound}
 use Rattle.walks.specs.Walks.{unbound_name, input_count_in, same, node}

@@ -1,6 +1,5 @@
 -- `walks::structure::structure_refusal` meets its contract: what the walks find is what the definition says of a script whose
 -- nodes the words hold (`words_agree`). Assumes nothing.
-use borrow.Author.Rules.{rules}
 use mathlib.Core.Path.{sym, ◌∙◌}
 use native.Mathlib.Omega.{arith}
 use Rattle.lambdamix.specs.Limits.{max_nodes}

@@ -1,6 +1,5 @@
 -- `walks::structure::tree_refusal` meets its contract: a search within the levels that are allowed finds the lowest unbound variable of a tree that is not
 -- too high, and tells one that is. Assumes nothing.
-use borrow.Author.Rules.{rules}
 use Prim.Native.Nat.{ℕ}
 use mathlib.Core.Path.{refl}
 use native.Mathlib.Omega.{arith}
@@ -16,9 +15,9 @@ use Rattle.walks.proofs.structure.tree_refusal.Goals as goal
 pub scope-place-requires : goal.scope-place-requires
 unfolding max_height levels_in
 scope-place-requires c = record {
-      i_bound = (c.requires, omega (arith, length-replicate {A = ℕ} max_height 0));
-      limits_bound = omega arith;
-    }
+  i_bound = (c.requires, omega (arith, length-replicate {A = ℕ} max_height 0));
+  limits_bound = omega arith;
+}
 
 pub returns-then-place : goal.returns-then-place
 unfolding innermost refusal_of refused_at or_else max_height
