@@ -22,6 +22,7 @@ const HIGHEST: u32 = 4294967295;
 const SHORT: u32 = 100000;
 
 // A digit behind the bytes that stand, as many as `length` says; a zero in front of all others is none. How many bytes stand then.
+#[tactic(auto, using(crate::specs::Drawing::passed_over, crate::specs::Drawing::stands))]
 fn put_digit(out: &mut [u8], length: usize, digit: u8) -> usize
     requires { (digit < 10) × (length < 10) }
     ensures { NextDigit digit length out.old out.new result }
