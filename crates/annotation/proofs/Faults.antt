@@ -53,6 +53,15 @@ fault_gathered p =
       no_fault = λ h. elim (p.no_fault h) as (λ y _. Right (gather y)) [ right a ↦ right _ ];
     }
 
+-- the lowest of two answers, by their nodes
+pub lowest_first : (e f : ℕ) → e / fault_limit ≤ f / fault_limit → e ≡ lowest e f
+unfolding lowest
+lowest_first e f h = rw (le-leb (e / fault_limit) (f / fault_limit) h)
+
+pub lowest_second : (e f : ℕ) → f / fault_limit < e / fault_limit → f ≡ lowest e f
+unfolding lowest
+lowest_second e f h = rw (lt-leb (e / fault_limit) (f / fault_limit) h)
+
 -- an answer that is no fault, behind another or before it, tells nothing
 module _ {A : Type 0} {m n : ℕ} {x : Checked A} (p : TellsFault m x) (h : type_base ≤ n) where
   nothing_more : n / fault_limit ≤ m / fault_limit → TellsFault n x

@@ -98,6 +98,7 @@ fn type_in(e: u32) -> TypeNumber
 }
 
 // The fault at the lower node; where only one answer is a fault, that one.
+#[tactic(auto, using(crate::proofs::Faults::lowest_first, crate::proofs::Faults::lowest_second))]
 fn lower(e: u32, f: u32) -> u32
     ensures { result ≡ lowest e f }
 {

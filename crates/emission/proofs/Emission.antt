@@ -20,8 +20,9 @@ use Rattle.file.specs.Written.{Put, PutWhole}
 use Rattle.file.proofs.RecordLaws.{records_length}
 use Rattle.file.proofs.Layouts.{node_layout, node_sized}
 use Rattle.file.proofs.WritingLaws.{put_there, put_both, put_length, put_same, records_append}
-use Rattle.residual.specs.Cells.{piece_by, row_pieces, field_by, row_node}
+use Rattle.residual.specs.Cells.{code_at, piece_by, row_pieces, field_by, row_node}
 use Rattle.emission.specs.Emission.{Emits, EmitsAll, EmitsOver, EmitsField}
+use Rattle.residual.proofs.CellLaws.{past_read}
 use Rattle.residual.proofs.Rows.{by_piece, plain, ByRow}
 
 -- ---- bytes
@@ -72,6 +73,10 @@ module _ {c : Code} {z : ℤ} (e : c ≡ lit z) where
 
   pub emits_constant : {y : ℤ} {base k r : ℕ} {l m : List ℕ} → y ≡ z → Emits (lit y) base k l m r → Emits c base k l m r
   emits_constant f p = rw (e, ← f) p
+
+-- past the store's end stands a constant
+pub code_past : (xs : List ℕ) (p : ℕ) → length xs ≤ p → code_at xs p ≡ lit (pos 0)
+code_past xs p h = (past_read h).code
 
 -- a variable's node
 pub emits_variable :

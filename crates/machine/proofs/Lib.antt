@@ -1,3 +1,4 @@
+pub mod Branches
 pub mod Programs
 pub mod Stands
 pub mod Nodes

@@ -53,6 +53,7 @@ fn answer(input: &[u8], out: &mut [u8]) -> usize
 }
 
 // Every input is answered by the bytes that the program prints for it. An output that may be too short for them is 21, before all else.
+#[tactic(auto, using(streams::proofs::Responding::call_answered), unfolding(crate::specs::Response::response, lambdamix::specs::Limits::max_bytes))]
 pub fn respond(input: &[u8], out: &mut [u8]) -> Writing
     ensures { Responds (response input.now) out.old out.new result }
 {

@@ -16,6 +16,7 @@ pub const MAX_HEIGHT: usize = 256;
 pub const FEW_NODES: usize = 128;
 
 // "64 listed types, 16 inputs, 1 to 4,096 nodes"
+#[tactic(auto, unfolding(crate::specs::Refusals::counts_right, lambdamix::specs::Limits::max_types, lambdamix::specs::Limits::max_inputs, lambdamix::specs::Limits::max_nodes))]
 pub fn counts_right(n: Counts) -> bool
     ensures { result ≡ counts_right n.types n.inputs n.nodes }
 {

@@ -4,7 +4,9 @@ use mathlib.Core.Path.{◌≡◌}
 use mathlib.Core.Bool.{Bool, true, false}
 use mathlib.Core.List.{List}
 use native.Mathlib.Omega.{arith}
+use lib.Dec.{ltb}
 use lib.ListN.{length, length-append}
+use borrow.Author.Tests.{lt-ltb, le-ltb}
 use Rattle.lambdamix.specs.Limits.{max_bytes}
 use Rattle.lambdamix.specs.Text.{ascii, digits}
 use Rattle.text.specs.Places.{Placed}
@@ -33,6 +35,18 @@ pub prints_unmade :
     (b : Bool) (n p : ℕ) → n < 256 → p < 18446744073709551616 → {x y : List ℕ} {r : ℕ} →
     Placed (unmade_text b n p) 0 x y r → Prints (unmade_text b n p) x y r
 prints_unmade b n p h k l = record { short = unmade_short b n p h k; placed = l }
+
+-- the words go by the number
+pub unmade_refused : (n p : ℕ) → n < 20 → unmade_text (ltb n 20) n p ≡ pair_text (ascii "refused ") n (ascii " ") p
+unfolding unmade_text
+unmade_refused n p h = rw (lt-ltb n 20 h)
+
+pub unmade_stopped : (n p : ℕ) → 20 ≤ n → unmade_text (ltb n 20) n p ≡ pair_text (ascii "accepted\nstopped ") n (ascii " ") p
+unfolding unmade_text
+unmade_stopped n p h = rw (le-ltb n 20 h)
+
+pub unmade_within : (n p : ℕ) → n < 256 → p < 18446744073709551616 → length (unmade_text (ltb n 20) n p) ≤ max_bytes
+unmade_within n p h k = unmade_short (ltb n 20) n p h k
 
 -- ---- steps and nodes
 

@@ -19,6 +19,7 @@ pub fn print_pair(out: &mut [u8], opening: &[u8], x: u32, middle: &[u8], y: u64)
 }
 
 // "`refused 9 4` (number, place) alone, or `accepted` and `stopped 24 2`, each on its own line"
+#[tactic(auto, using(crate::proofs::Lines::unmade_refused, crate::proofs::Lines::unmade_stopped, crate::proofs::Lines::unmade_within), unfolding(lambdamix::specs::Text::ascii))]
 pub fn print_unmade(out: &mut [u8], number: u8, place: usize) -> usize
     ensures { Prints (unmade_text (ltb number 20) number place) out.old out.new result }
 {

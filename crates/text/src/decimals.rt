@@ -78,6 +78,7 @@ pub fn put_prefixed(out: &mut [u8], letter: u8, x: u32) -> Decimal
 }
 
 // "Signed decimals", the least number too, whose distance from 0 has 32 bits.
+#[tactic(auto, using(crate::proofs::Signs::read_back, crate::proofs::Signs::decimal_unsigned, crate::proofs::Signs::decimal_signed))]
 pub fn put_decimal(out: &mut [u8], z: i32) -> Decimal
     ensures { PutNumber (decimal z) out.old out.new result }
 {

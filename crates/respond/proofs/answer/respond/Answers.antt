@@ -6,10 +6,6 @@ use Rattle.respond.specs.Response.{response}
 use borrow.Author.Rules.{rules}
 use Rattle.respond.proofs.answer.respond.Goals as goal
 
-pub returns-then-out-ge-MAX_BYTES : goal.returns-then-out-ge-MAX_BYTES
-unfolding max_bytes response
-returns-then-out-ge-MAX_BYTES c = call_answered (omega arith) (omega (arith, c.well_formed)) c.answer.ensures
-
 pub returns : goal.returns
 unfolding max_bytes
 returns c = call_short (search rules) (search rules) (omega arith)
