@@ -56,7 +56,7 @@ module _ (t i n : ℕ) (x : Tables) (ws : List ℕ) (e : tables_refusal t i n x 
 -- ---- the answer
 
 -- what a walk that is lent no room gives back is nothing
-untouched : (y x : List ℕ) → length y ≡ 0 → y ++ x ≡ x
+pub untouched : (y x : List ℕ) → length y ≡ 0 → y ++ x ≡ x
 untouched [] x h = refl
 untouched (b ∷ y) x h = absurd (omega arith)
 
@@ -69,6 +69,14 @@ module _ {text x y : List ℕ} {k : ℕ} (short : length x < most) (same : y ≡
 
   puts_nothing : length y < k → Fitted text x y (Refused (record { number = 21; place = 0 }))
   puts_nothing h = text_short refl (omega (arith, ap length same)) same
+
+-- the same of a walk of the whole output, as grind reads it
+pub lists_written :
+    (n : Counts) (ws x z : List ℕ) (k : ℕ) → length x < most → k ≡ min (0 + length (whole_text n.inputs n.nodes ws)) most → k ≤ length x →
+    z ≡ over (whole_text n.inputs n.nodes ws) x → Lists n ws x z (Written k)
+unfolding tables_text
+lists_written n ws x z k short counted h p =
+    record { lists = λ t e q. rw (listing_text _ _ _ t ws e q) (text_fits (omega arith) h p) }
 
 -- ---- the entry: x is the output before, y what the first walk gives back of the part of length 0 that it is lent
 

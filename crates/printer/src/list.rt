@@ -13,6 +13,7 @@ use tables::refusal::tables_packed;
 
 // Nodes in words: a first walk, which is lent no room, finds how long the listing is; a second writes it. No listing of a script past
 // refusals 1 to 8 passes 65,536 bytes.
+#[tactic(auto, using(crate::proofs::Printed::untouched, crate::proofs::Printed::lists_written))]
 fn list_words(n: Counts, words: &[u64], out: &mut [u8]) -> Writing
     ensures { Lists n words.now out.old out.new result }
 {
