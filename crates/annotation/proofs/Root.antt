@@ -15,7 +15,7 @@ use Rattle.lambdamix.specs.Typing.{input_context}
 use Rattle.lambdamix.specs.Checker.{Checked, typed, root_rule, checked_root, annotation_refusal}
 use Rattle.lambdamix.proofs.Tests.{holds_or_fails}
 use Rattle.script.specs.declared.Counts.{Counts}
-use Rattle.script.specs.declared.Verdict.{Verdict}
+use Rattle.script.specs.Answers.{Verdict}
 use Rattle.script.specs.Verdicts.{refusal_of}
 use Rattle.script.specs.Tables.{Tables, row_type, row_input, row_node, tables_refusal, tables_of}
 use Rattle.script.specs.Words.{Packed}

@@ -13,7 +13,7 @@ use Rattle.lambdamix.specs.Checker.{check, annotation_refusal}
 use Rattle.script.specs.Kinds.{is_binder, is_child}
 use Rattle.script.specs.declared.Counts.{Counts}
 use Rattle.script.specs.declared.Row.{Row}
-use Rattle.script.specs.declared.Verdict.{Verdict}
+use Rattle.script.specs.Answers.{Verdict}
 use Rattle.script.specs.Refusals.{script_refusal}
 use Rattle.script.specs.Replies.{Tells}
 use Rattle.script.specs.Tables.{row_node, tables_of}

@@ -1,61 +1,36 @@
 // The checker: refusals 1 to 8 of the tables, then 9 to 11.
-ghost use Rattle.std.specs.Prelude.{min, ◌≤◌, length};
+ghost use Rattle.std.specs.Prelude.{min, ◌≤◌};
 ghost use Rattle.lambdamix.specs.Limits.{max_nodes};
 ghost use Rattle.script.specs.Replies.{Tells};
-ghost use Rattle.script.specs.Tables.{tables_of};
+ghost use Rattle.script.specs.Tables.{tables_in};
 ghost use Rattle.annotation.specs.Checks.{check_refusal};
 
 use crate::typing::annotation_refusal;
+use script::columns::Columns;
 use script::limits::{FEW_NODES, MAX_NODES};
-use script::{Counts, Verdict};
+use script::{Counts, Refusal};
 use tables::refusal::tables_packed;
 
-// The check in words for the nodes, or for as many as a script may have.
-fn check_in(
-    n: Counts,
-    parameters: &[u16],
-    results: &[u16],
-    inputs: &[u16],
-    kinds: &[u8],
-    a: &[u16],
-    b: &[u16],
-    c: &[u16],
-    values: &[i32],
-    words: &mut [u64],
-) -> Verdict
-    requires { min n.nodes max_nodes ≤ length words.old }
-    ensures { Tells (check_refusal n.types n.inputs n.nodes (tables_of parameters.now results.now inputs.now kinds.now a.now b.now c.now values.now)) result }
+// The check in words for so many nodes: as many as the script has, or as a script may have.
+#[tactic(auto, unfolding(lambdamix::specs::Limits::max_nodes))]
+fn check_sized<const N: usize>(n: Counts, columns: &Columns) -> Result<(), Refusal>
+    requires enough { min n.nodes max_nodes ≤ N }
+    requires few { N ≤ max_nodes }
+    ensures { Tells (check_refusal n.types n.inputs n.nodes (tables_in columns.now)) result }
 {
-    match tables_packed(
-        n, parameters, results, inputs, kinds, a, b, c, values, words,
-    ) {
-        Verdict::Refused(f) => Verdict::Refused(f),
-        Verdict::Passed => annotation_refusal(n, parameters, results, inputs, words),
-    }
+    let mut words = [0u64; N];
+    tables_packed(n, columns, &mut words)?;
+    annotation_refusal(n, columns, &words)
 }
 
 // Every call is answered, and no lent table is touched.
-pub fn check(
-    n: Counts,
-    parameters: &[u16],
-    results: &[u16],
-    inputs: &[u16],
-    kinds: &[u8],
-    a: &[u16],
-    b: &[u16],
-    c: &[u16],
-    values: &[i32],
-) -> Verdict
-    ensures { Tells (check_refusal n.types n.inputs n.nodes (tables_of parameters.now results.now inputs.now kinds.now a.now b.now c.now values.now)) result }
+#[tactic(auto, unfolding(lambdamix::specs::Limits::max_nodes))]
+pub fn check(n: Counts, columns: &Columns) -> Result<(), Refusal>
+    ensures { Tells (check_refusal n.types n.inputs n.nodes (tables_in columns.now)) result }
 {
     if (n.nodes as usize) <= FEW_NODES {
-        let mut words = [0u64; FEW_NODES];
-        return check_in(
-            n, parameters, results, inputs, kinds, a, b, c, values, &mut words,
-        );
+        check_sized::<FEW_NODES>(n, columns)
+    } else {
+        check_sized::<MAX_NODES>(n, columns)
     }
-    let mut words = [0u64; MAX_NODES];
-    check_in(
-        n, parameters, results, inputs, kinds, a, b, c, values, &mut words,
-    )
 }

@@ -1,8 +1,9 @@
 // The types of a script's nodes, found by recursion on falling node numbers, field by field as the table of tables says: refusals 9, 10
 // and 11. An answer is one number, and the nodes are lent by a reference to a slice reference: a struct that is returned and a slice
-// reference itself would go through memory.
-ghost use Rattle.std.specs.Prelude.{◌-◌, ◌≤◌, ◌≡◌, ◌&&◌, get_or, length, replicate, set, eqb};
+// reference itself would go through memory (docs/SPEED.md, 2 and 8).
+ghost use Rattle.std.specs.Prelude.{◌-◌, ◌≤◌, ◌≡◌, ◌&&◌, get_or, length, replicate, eqb};
 ghost use Rattle.lambdamix.specs.Limits.{max_types};
+ghost use Rattle.script.specs.Causes.{cause_number};
 ghost use Rattle.script.specs.Kinds.{is_binder, is_child};
 ghost use Rattle.script.specs.Verdicts.{refusal_of};
 ghost use Rattle.script.specs.Words.{word_kind, word_a};
@@ -10,12 +11,14 @@ ghost use Rattle.annotation.specs.AnswerWords.{apply_answer, fault_answer, fix_a
 ghost use Rattle.annotation.specs.Walks.{Annotated, Answers, Bottom, ChildAnswers, Entered, FieldAnswers, Lists, Listing, Pair, Pushed, RowOf, Ruled, bound, parameter_by, unlisted};
 
 use lambdamix::Use;
-use script::column::type_at;
-use script::kinds::{is_binder, is_child, own_row};
+use script::cause::Cause;
+use script::column::{at, put};
+use script::columns::Columns;
+use script::kinds::{self, is_binder, is_child, own_row};
 use script::limits::{MAX_HEIGHT, MAX_INPUTS, MAX_TYPES};
 use script::place::root;
 use script::word::{child_a, child_b, child_c, kind, name_a, node_word, type_b};
-use script::{Counts, Name, NodeNumber, Refusal, Row, TypeNumber, Verdict};
+use script::{Counts, Name, NodeNumber, Refusal, Row, TypeNumber};
 
 // Places of the stack: the inputs, and as many binders as a tree is high.
 const STACK_PLACES: usize = MAX_INPUTS + MAX_HEIGHT;
@@ -39,43 +42,24 @@ const FIRST_LISTED: TypeNumber = TypeNumber(2);
 // What a place past the listed types holds: no pair of types.
 const UNLISTED: u32 = 4294967295;
 
-// A listed type: its parameter over its result.
-fn function_word(t: TypeNumber, u: TypeNumber) -> u32
-    ensures pair { Pair result t.0 u.0 }
-    ensures word { result ≡ pair_word t.0 u.0 }
+// Two numbers in one word: a listed type as its parameter over its result, a binder as its type over its name.
+fn pair(high: u16, low: u16) -> u32
+    ensures pair { Pair result high low }
+    ensures word { result ≡ pair_word high low }
 {
-    LIMIT_16 * (t.0 as u32) + (u.0 as u32)
+    LIMIT_16 * (high as u32) + (low as u32)
 }
 
-fn parameter_of(w: u32) -> TypeNumber
-    ensures { result.0 ≡ high_half w }
+fn high_half(w: u32) -> u16
+    ensures { result ≡ high_half w }
 {
-    TypeNumber((w / LIMIT_16) as u16)
+    (w / LIMIT_16) as u16
 }
 
-fn result_of(w: u32) -> TypeNumber
-    ensures { result.0 ≡ low_half w }
+fn low_half(w: u32) -> u16
+    ensures { result ≡ low_half w }
 {
-    TypeNumber((w % LIMIT_16) as u16)
-}
-
-// A binder: its type over its name.
-fn binder_word(t: TypeNumber, x: Name) -> u32
-    ensures { Pair result t.0 x.0 }
-{
-    LIMIT_16 * (t.0 as u32) + (x.0 as u32)
-}
-
-fn binder_type(w: u32) -> TypeNumber
-    ensures { result.0 ≡ high_half w }
-{
-    TypeNumber((w / LIMIT_16) as u16)
-}
-
-fn binder_name(w: u32) -> Name
-    ensures { result.0 ≡ low_half w }
-{
-    Name((w % LIMIT_16) as u16)
+    (w % LIMIT_16) as u16
 }
 
 fn typed(t: TypeNumber) -> u32
@@ -84,17 +68,17 @@ fn typed(t: TypeNumber) -> u32
     TYPE_BASE + (t.0 as u32)
 }
 
-fn fault(number: u8, i: NodeNumber) -> u32
-    ensures { result ≡ fault_answer number i.0 }
+fn fault(cause: Cause, i: NodeNumber) -> u32
+    ensures { result ≡ fault_answer (cause_number cause) i.0 }
 {
-    FAULT_LIMIT * (i.0 as u32) + (number as u32)
+    FAULT_LIMIT * (i.0 as u32) + (cause.number() as u32)
 }
 
 // The type of an answer that is no fault.
 fn type_in(e: u32) -> TypeNumber
     ensures { result.0 ≡ type_in e }
 {
-    TypeNumber((e % LIMIT_16) as u16)
+    TypeNumber(low_half(e))
 }
 
 // The fault at the lower node; where only one answer is a fault, that one.
@@ -110,16 +94,15 @@ fn lower(e: u32, f: u32) -> u32
 }
 
 // A type where a test holds, else a fault 9 at node i.
+// A test and a type, since an `Option` made at each call would be taken apart here.
 fn given(ok: bool, t: TypeNumber, i: NodeNumber) -> u32
     ensures { result ≡ given_by ok t.0 i.0 }
 {
-    if ok { typed(t) } else { fault(9, i) }
-}
-
-fn both(p: bool, q: bool) -> bool
-    ensures { result ≡ (p && q) }
-{
-    if p { q } else { false }
+    if ok {
+        typed(t)
+    } else {
+        fault(Cause::NodeAtFault, i)
+    }
 }
 
 // The word of a listed type, by its number.
@@ -127,11 +110,7 @@ fn listed(types: &[u32], f: TypeNumber) -> u32
     requires { 2 ≤ f.0 }
     ensures { result ≡ get_or types.now (f.0 - 2) 0 }
 {
-    let at = (f.0 - FIRST_LISTED.0) as usize;
-    if at < types.len() {
-        return types[at];
-    }
-    0
+    at(types, (f.0 - FIRST_LISTED.0) as usize, 0)
 }
 
 // Application: a function from t to u and an argument t give u.
@@ -139,11 +118,10 @@ fn application(types: &[u32], i: NodeNumber, f: TypeNumber, t: TypeNumber) -> u3
     ensures { result ≡ apply_answer types.now i.0 f.0 t.0 }
 {
     if f.0 < FIRST_LISTED.0 {
-        return fault(9, i);
+        return fault(Cause::NodeAtFault, i);
     }
     let w = listed(types, f);
-    let p = parameter_of(w);
-    given(p.0 == t.0, result_of(w), i)
+    given(TypeNumber(high_half(w)) == t, TypeNumber(low_half(w)), i)
 }
 
 // Fix: a function from a function type to that same type gives it.
@@ -151,30 +129,29 @@ fn fix(types: &[u32], i: NodeNumber, f: TypeNumber) -> u32
     ensures { result ≡ fix_answer types.now i.0 f.0 }
 {
     if f.0 < FIRST_LISTED.0 {
-        return fault(9, i);
+        return fault(Cause::NodeAtFault, i);
     }
     let w = listed(types, f);
-    let t = parameter_of(w);
-    let u = result_of(w);
-    given(both(FIRST_LISTED.0 <= t.0, t.0 == u.0), t, i)
+    let t = TypeNumber(high_half(w));
+    let u = TypeNumber(low_half(w));
+    given(FIRST_LISTED.0 <= t.0 && t == u, t, i)
 }
 
 // Function: the type from t to u, which must be listed.
+// A `for`: the place, a sum and two casts of it are not proved of `position`.
 fn function(types: &[u32], i: NodeNumber, t: TypeNumber, u: TypeNumber) -> u32
     ensures { max_types ≤ length types.now → Listing types.now (pair_word t.0 u.0) i.0 result }
 {
     if types.len() < MAX_TYPES {
-        return fault(10, i);
+        return fault(Cause::TypeNotListed, i);
     }
-    let w = function_word(t, u);
-    let mut j: usize = 0;
-    while j < MAX_TYPES {
+    let w = pair(t.0, u.0);
+    for j in 0..MAX_TYPES {
         if types[j] == w {
             return typed(TypeNumber(FIRST_LISTED.0 + (j as u16)));
         }
-        j += 1;
     }
-    fault(10, i)
+    fault(Cause::TypeNotListed, i)
 }
 
 // Variable: its binder's type, the innermost first.
@@ -182,25 +159,22 @@ fn variable(stack: &[u32], depth: usize, i: NodeNumber, x: Name) -> u32
     ensures { depth ≤ length stack.now → result ≡ bound stack.now x.0 i.0 depth }
 {
     if stack.len() < depth {
-        return fault(9, i);
+        return fault(Cause::NodeAtFault, i);
     }
-    let mut d = depth;
-    while 0 < d {
-        d -= 1;
+    for d in (0..depth).rev() {
         let w = stack[d];
-        let y = binder_name(w);
-        if y.0 == x.0 {
-            return typed(binder_type(w));
+        if Name(low_half(w)) == x {
+            return typed(TypeNumber(high_half(w)));
         }
     }
-    fault(9, i)
+    fault(Cause::NodeAtFault, i)
 }
 
 // Late kinds: all children D.
 fn all_dynamic(t: TypeNumber, u: TypeNumber, v: TypeNumber) -> bool
     ensures { result ≡ (eqb t.0 1 && (eqb u.0 1 && eqb v.0 1)) }
 {
-    both(t.0 == DYNAMIC.0, both(u.0 == DYNAMIC.0, v.0 == DYNAMIC.0))
+    t == DYNAMIC && u == DYNAMIC && v == DYNAMIC
 }
 
 // The rule of a node with children on the answers at its fields, of which those that are no children are D; the lowest fault goes first.
@@ -226,12 +200,12 @@ fn rule(
     let u = type_in(f);
     let v = type_in(g);
     match kind(w) {
-        2 => given(t.0 == STATIC.0, DYNAMIC, i),
-        3 => function(types, i, p, v),
-        4 => application(types, i, t, u),
-        5 => fix(types, i, t),
-        6 => given(both(t.0 == STATIC.0, u.0 == v.0), u, i),
-        7 => given(both(t.0 == STATIC.0, u.0 == STATIC.0), STATIC, i),
+        kinds::LIFT => given(t == STATIC, DYNAMIC, i),
+        kinds::FUNCTION => function(types, i, p, v),
+        kinds::APPLICATION => application(types, i, t, u),
+        kinds::FIX => fix(types, i, t),
+        kinds::CONDITIONAL => given(t == STATIC && u == v, u, i),
+        kinds::OPERATION => given(t == STATIC && u == STATIC, STATIC, i),
         _ => given(all_dynamic(t, u, v), DYNAMIC, i),
     }
 }
@@ -242,9 +216,10 @@ fn push(stack: &mut [u32], depth: usize, w: u32) -> usize
 {
     if depth < stack.len() {
         stack[depth] = w;
-        return depth + 1;
+        depth + 1
+    } else {
+        depth
     }
-    depth
 }
 
 // The type of a binder's parameter, by the use of the field that may name it: that one, or D.
@@ -253,11 +228,7 @@ fn parameter(u: Use, t: TypeNumber) -> TypeNumber
 {
     match u {
         Use::ParameterType => t,
-        Use::Nothing => DYNAMIC,
-        Use::Name => DYNAMIC,
-        Use::Binder => DYNAMIC,
-        Use::Child => DYNAMIC,
-        Use::Operation => DYNAMIC,
+        Use::Nothing | Use::Name | Use::Binder | Use::Child | Use::Operation => DYNAMIC,
     }
 }
 
@@ -266,17 +237,9 @@ fn enter(stack: &mut [u32], depth: usize, u: Use, t: TypeNumber, x: Name) -> usi
     ensures { Entered t.0 x.0 depth stack.old (is_binder u) result stack.new }
 {
     if is_binder(u) {
-        return push(stack, depth, binder_word(t, x));
-    }
-    depth
-}
-
-// A write past the end changes nothing.
-fn put(s: &mut [u32], i: usize, w: u32)
-    ensures { s.new ≡ set s.old i w }
-{
-    if i < s.len() {
-        s[i] = w;
+        push(stack, depth, pair(t.0, x.0))
+    } else {
+        depth
     }
 }
 
@@ -295,8 +258,8 @@ fn node(
     let w = node_word(*nodes, i);
     let k = kind(w);
     match k {
-        0 => typed(STATIC),
-        1 => variable(stack, depth, i, name_a(w)),
+        kinds::CONSTANT => typed(STATIC),
+        kinds::VARIABLE => variable(stack, depth, i, name_a(w)),
         _ => fields(nodes, types, stack, depth, i, w, own_row(k)),
     }
 }
@@ -315,9 +278,7 @@ fn fields(
     requires { RowOf nodes.now.now i.0 w row }
     ensures { Answers nodes.now.now types.now stack.old stack.new depth i.0 result }
 {
-    let a = row.0;
-    let b = row.1;
-    let c = row.2;
+    let Row(a, b, c) = row;
     let p = parameter(b, type_b(w));
     let inner = enter(stack, depth, a, p, name_a(w));
     let e = field(nodes, types, stack, inner, i, a, child_a(w));
@@ -340,9 +301,10 @@ fn field(
     ensures { FieldAnswers nodes.now.now types.now depth i.0 m.0 stack.old (is_child u) stack.new result }
 {
     if is_child(u) {
-        return child(nodes, types, stack, depth, i, m);
+        child(nodes, types, stack, depth, i, m)
+    } else {
+        typed(DYNAMIC)
     }
-    typed(DYNAMIC)
 }
 
 // A child's number is smaller than its parent's.
@@ -358,9 +320,10 @@ fn child(
     ensures { ChildAnswers nodes.now.now types.now stack.old stack.new depth i.0 m.0 result }
 {
     if m.0 < i.0 {
-        return node(nodes, types, stack, depth, m);
+        node(nodes, types, stack, depth, m)
+    } else {
+        typed(DYNAMIC)
     }
-    typed(DYNAMIC)
 }
 
 // The words of the listed types, over places that hold none.
@@ -368,12 +331,8 @@ fn pack_types(parameters: &[u16], results: &[u16], count: u16, types: &mut [u32]
     ensures { types.old ≡ replicate max_types unlisted → count ≤ max_types →
         Lists count (λ j. get_or parameters.now j 0) (λ j. get_or results.now j 0) types.new }
 {
-    let n = count as usize;
-    let mut j: usize = 0;
-    while j < n {
-        let w = function_word(type_at(parameters, j), type_at(results, j));
-        put(types, j, w);
-        j += 1;
+    for j in 0..count as usize {
+        put(types, j, pair(at(parameters, j, 0), at(results, j, 0)));
     }
 }
 
@@ -381,48 +340,39 @@ fn pack_types(parameters: &[u16], results: &[u16], count: u16, types: &mut [u32]
 fn bind_inputs(inputs: &[u16], count: u16, stack: &mut [u32])
     ensures { count ≤ length stack.old → Bottom count inputs.now stack.new }
 {
-    let mut j: u16 = 0;
-    while j < count {
-        let w = binder_word(type_at(inputs, j as usize), Name(j));
-        put(stack, (count - 1 - j) as usize, w);
-        j += 1;
+    for j in 0..count {
+        put(
+            stack,
+            (count - 1 - j) as usize,
+            pair(at(inputs, j as usize, 0), j),
+        );
     }
 }
 
 // The verdict on the root i, whose answer is r: it must be D.
-fn verdict(i: NodeNumber, r: u32) -> Verdict
+fn verdict(i: NodeNumber, r: u32) -> Result<(), Refusal>
     ensures { refusal_of result ≡ root_answer i.0 r }
 {
     if r < TYPE_BASE {
-        return Verdict::Refused(Refusal {
+        return Err(Refusal {
             number: (r % FAULT_LIMIT) as u8,
             place: (r / FAULT_LIMIT) as usize,
         });
     }
-    let t = type_in(r);
-    if t.0 == DYNAMIC.0 {
-        return Verdict::Passed;
+    if type_in(r) == DYNAMIC {
+        return Ok(());
     }
-    Verdict::Refused(Refusal {
-        number: 11,
-        place: i.0 as usize,
-    })
+    Err(Cause::RootNotLate.at(i.0 as usize))
 }
 
 // Refusals 9, 10 and 11 of tables of which none of 1 to 8 holds.
-pub fn annotation_refusal(
-    n: Counts,
-    parameters: &[u16],
-    results: &[u16],
-    inputs: &[u16],
-    nodes: &[u64],
-) -> Verdict
-    ensures { Annotated n parameters.now results.now inputs.now nodes.now result }
+pub fn annotation_refusal(n: Counts, columns: &Columns, nodes: &[u64]) -> Result<(), Refusal>
+    ensures { Annotated n columns.now.parameters.now columns.now.results.now columns.now.inputs.now nodes.now result }
 {
     let mut types = [UNLISTED; MAX_TYPES];
-    pack_types(parameters, results, n.types, &mut types);
+    pack_types(columns.parameters, columns.results, n.types, &mut types);
     let mut stack = [0u32; STACK_PLACES];
-    bind_inputs(inputs, n.inputs, &mut stack);
+    bind_inputs(columns.inputs, n.inputs, &mut stack);
     let i = root(n.nodes);
     let depth = n.inputs as usize;
     verdict(i, node(&nodes, &types, &mut stack, depth, i))

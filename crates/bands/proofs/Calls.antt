@@ -12,8 +12,8 @@ use lib.Dec.{eqb}
 use borrow.Author.Tests.{le-leb, eqb-false}
 use Rattle.lambdamix.specs.Refusal.{Refusal, or_else, refused_unless, refused_at}
 use Rattle.script.specs.declared.Counts.{Counts}
-use Rattle.script.specs.declared.Reading.{Reading}
-use Rattle.script.specs.declared.Writing.{Writing}
+use Rattle.script.specs.Answers.{Reading}
+use Rattle.script.specs.Answers.{Writing}
 use Rattle.script.specs.Tables.{Tables, long_enough, filled, read_refusal, read_tables, room_refusal, written_output}
 use Rattle.script.specs.File.{script_in, head_types, head_inputs, head_nodes}
 use Rattle.script.specs.Replies.{Reply, head_counts, replying, Form, writing_reply, Reads}

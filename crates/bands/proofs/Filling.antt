@@ -15,7 +15,8 @@ use Rattle.lambdamix.proofs.Tests.{holds_or_fails}
 use Rattle.script.specs.Columns.{nodes_in}
 use Rattle.bands.specs.BandScript.{band_script, band_nodes}
 use Rattle.bands.specs.Calls.{Columns, rows_in}
-use Rattle.bands.specs.Steps.{PutAt, PutNode, Long, HoldsNodes}
+use Rattle.bands.specs.Rows.{max_rows}
+use Rattle.bands.specs.Steps.{PutAt, PutNode, Long, HoldsNodes, RowCount}
 
 -- a column with one place put
 put_elsewhere : {A : Type 0} {l k : List A} {j : ℕ} {v : A} (d : A) (i : ℕ) → PutAt l j v k → i < j → get_or k i d ≡ get_or l i d
@@ -26,6 +27,20 @@ put_there {l} {j} {v} d i e q h = rw (e.put, q) (get_or-set_same l j v d h)
 
 put_length : {A : Type 0} {l k : List A} {j : ℕ} {v : A} → PutAt l j v k → length k ≡ length l
 put_length {l} {j} {v} e = rw e.put (length-set l j v)
+
+-- columns of 219 places are long enough
+pub long_by :
+    {m : ℕ} {ks xs ys zs : List ℕ} {vs : List ℤ} → RowCount m → Long 219 ks xs ys zs vs → Long (band_nodes m) ks xs ys zs vs
+unfolding band_nodes max_rows
+long_by c l =
+    let few = c.few in
+    record {
+      kinds = omega (arith, l.kinds);
+      a = omega (arith, l.a);
+      b = omega (arith, l.b);
+      c = omega (arith, l.c);
+      values = omega (arith, l.values);
+    }
 
 module _ (m : ℕ) (x : Columns) (ks₀ xs₀ ys₀ zs₀ : List ℕ) (vs₀ : List ℤ) where
   -- the first j nodes are filled
@@ -85,3 +100,15 @@ module _ (m : ℕ) (x : Columns) (ks₀ xs₀ ys₀ zs₀ : List ℕ) (vs₀ : L
       {j n : ℕ} {ks xs ys zs : List ℕ} {vs : List ℤ} → Filling j ks xs ys zs vs → n ≤ j → n ≡ band_nodes m →
       HoldsNodes m x (band_nodes m) ks xs ys zs vs
   fill_ends f h w = record { held = λ i l. f.held.held i (omega arith) }
+
+  -- what was long enough stays so
+  pub fill_long : {j : ℕ} {ks xs ys zs : List ℕ} {vs : List ℤ} → Filling j ks xs ys zs vs → Long (band_nodes m) ks xs ys zs vs
+  fill_long f =
+      let l = f.long in
+      record {
+        kinds = omega (arith, f.kinds, l.kinds);
+        a = omega (arith, f.a, l.a);
+        b = omega (arith, f.b, l.b);
+        c = omega (arith, f.c, l.c);
+        values = omega (arith, f.values, l.values);
+      }

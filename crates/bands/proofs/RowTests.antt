@@ -76,12 +76,16 @@ module _ (ls : List ℤ) {m k : ℕ} where
 
 -- ---- the same of rows
 
-module _ (m : ℕ) (ls hs gs : List ℤ) {k : ℕ} where
-  pub right_tested :
-      {l h g : ℤ} {t u : Bool} → k < m → l ≡ get_or ls k (pos 0) → h ≡ get_or hs k (pos 0) → g ≡ get_or gs k (pos 0) → t ≡ band_right (row l h g) → t ≡ u →
-      band_right (band_at (rows_in m (columns_of ls hs gs)) k) ≡ u
+module _ (x : Columns) (k : ℕ) where
+  pub columns_right :
+      {l h g : ℤ} {t : Bool} → l ≡ get_or x.low k (pos 0) → h ≡ get_or x.high k (pos 0) → g ≡ get_or x.grade k (pos 0) → t ≡ band_right (row l h g) →
+      t ≡ band_right (row_in x k)
   unfolding row_in
-  right_tested w p q r e f = rw (band_at_lem m (columns_of ls hs gs) k w, ← p, ← q, ← r, ← e) f
+  columns_right p q r e = rw (← p, ← q, ← r) e
+
+module _ (m : ℕ) (x : Columns) {k : ℕ} {t : Bool} where
+  pub right_told : k < m → t ≡ band_right (row_in x k) → t ≡ band_right (band_at (rows_in m x) k)
+  right_told w e = rw (band_at_lem m x k w) e
 
 above_same : (m : ℕ) (ls hs gs : List ℤ) (k : ℕ) → k < m → above_before (rows_in m (columns_of ls hs gs)) k ≡ above_in ls hs k
 unfolding above_before above_in row_in
@@ -101,10 +105,10 @@ unfolding left_at left_in row_in
 left_same m ls hs gs zero h = refl
 left_same m ls hs gs (suc k) h = rw (band_at_lem m (columns_of ls hs gs) k (omega arith))
 
-module _ (m : ℕ) (ls hs gs : List ℤ) {k : ℕ} {t u : Bool} where
-  pub above_tested : k < m → t ≡ above_in ls hs k → t ≡ u → above_before (rows_in m (columns_of ls hs gs)) k ≡ u
-  above_tested w e f = above_same m ls hs gs k w ∙ sym e ∙ f
+module _ (m : ℕ) (ls hs gs : List ℤ) {k : ℕ} {t : Bool} where
+  pub above_told : k < m → t ≡ above_in ls hs k → t ≡ above_before (rows_in m (columns_of ls hs gs)) k
+  above_told w e = e ∙ sym (above_same m ls hs gs k w)
 
-  pub joins_tested : k ≤ m → t ≡ le_z (start_in ls m k) (left_in hs k) → t ≡ u → joins_before (rows_in m (columns_of ls hs gs)) k ≡ u
+  pub joins_told : k < suc m → t ≡ le_z (start_in ls m k) (left_in hs k) → t ≡ joins_before (rows_in m (columns_of ls hs gs)) k
   unfolding joins_before
-  joins_tested w e f = rw (start_same m ls hs gs k, left_same m ls hs gs k w) (sym e ∙ f)
+  joins_told w e = rw (start_same m ls hs gs k, left_same m ls hs gs k (omega arith)) e

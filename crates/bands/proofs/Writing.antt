@@ -17,7 +17,7 @@ use Rattle.lambdamix.specs.Code.{written}
 use Rattle.lambdamix.proofs.WrittenTree.{nodes_size}
 use Rattle.lambdamix.proofs.Tests.{and_intro, and_both}
 use Rattle.script.specs.declared.Counts.{Counts}
-use Rattle.script.specs.declared.Writing.{Writing}
+use Rattle.script.specs.Answers.{Writing}
 use Rattle.script.specs.File.{numbered, file_bytes, file_length, node_offset}
 use Rattle.script.specs.Columns.{enough}
 use Rattle.script.specs.Tables.{Tables, tables_of, row_input, row_node, tables_script, long_enough, tables_refusal, room_refusal, write_refusal}
@@ -114,14 +114,6 @@ module _ (m : ℕ) (x : Columns) {ks xs ys zs : List ℕ} {vs : List ℤ} where
         rw (room_alone before, script_held f.count h) at t
 
 -- ---- what the code knows
-
--- columns of 219 places are long enough
-pub long_by :
-    {m : ℕ} {ks xs ys zs : List ℕ} {vs : List ℤ} → RowCount m → length ks ≡ 219 → length xs ≡ 219 → length ys ≡ 219 → length zs ≡ 219 →
-    length vs ≡ 219 → Long (band_nodes m) ks xs ys zs vs
-unfolding band_nodes max_rows
-long_by c p q r s t =
-    let few = c.few in record { kinds = omega arith; a = omega arith; b = omega arith; c = omega arith; values = omega arith }
 
 -- rows that are not refused are 1 to 32
 pub row_count : (m : ℕ) (x : Columns) → columns_refusal m x ≡ none → RowCount m

@@ -3,11 +3,12 @@
 use Rattle.std.specs.Prelude.{ℕ, Bool, ◌&&◌, List, ℤ, pos, length, get_or, leb}
 use Rattle.std.proofs.Math.Option.{Option}
 use Rattle.lambdamix.specs.Refusal.{Refusal, or_else, refused_unless}
-use Rattle.script.specs.declared.Writing.{Writing}
+use Rattle.script.specs.Answers.{Writing}
 use Rattle.script.specs.File.{numbered, file_bytes}
 use Rattle.script.specs.Tables.{room_refusal}
 use Rattle.script.specs.Widths.{AllFit}
 use Rattle.script.specs.Replies.{Reply, Form, telling, writing_reply, WritesTextAs}
+use Rattle.bands.specs.declared.rows.Rows as Lent
 use Rattle.bands.specs.Rows.{Band, rows_refusal}
 use Rattle.bands.specs.BandScript.{band_script}
 
@@ -19,6 +20,10 @@ pub record Columns : Type 0 where
 
 abbrev pub columns_of : List ℤ → List ℤ → List ℤ → Columns
 columns_of ls hs gs = record { low = ls; high = hs; grade = gs }
+
+-- the columns that the code takes
+abbrev pub columns_in : Lent.Rows → Columns
+columns_in x = columns_of x.low.now x.high.now x.grade.now
 
 -- past its end a column reads zeros
 unfoldable pub row_in : Columns → ℕ → Band
@@ -42,7 +47,7 @@ band_bytes m x = file_bytes (band_script (rows_in m x))
 unfoldable pub bands_refusal : ℕ → Columns → List ℕ → Option Refusal
 bands_refusal m x out = or_else (columns_refusal m x) (room_refusal (band_bytes m x) out)
 
--- What a call promises, in any form and under the plain name by the enum: its reply and the output after it; and that the columns hold numbers of 32 bits.
+-- What a call promises, in any form and under the plain name by the answer: its reply and the output after it; and that the columns hold numbers of 32 bits.
 pub record MakesBandsAs {R : Type 0} (form : Form R (Reply ℕ)) (m : ℕ) (x : Columns) (before after : List ℕ) (r : R) : Type 0 where
   pub text : WritesTextAs form (bands_refusal m x before) (band_bytes m x) before after r
   pub low : AllFit x.low

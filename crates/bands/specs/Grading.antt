@@ -9,14 +9,13 @@ use Rattle.lambdamix.specs.PlainRun.{a_number, plain_job}
 use Rattle.lambdamix.specs.PlainRules.{Evaluates}
 use Rattle.script.specs.File.{script_in}
 use Rattle.script.specs.Tables.{Tables, tables_script, long_enough}
-use Rattle.script.specs.declared.Reading.{Reading}
-use Rattle.script.specs.declared.Verdict.{Verdict}
+use Rattle.script.specs.Answers.{Reading}
+use Rattle.script.specs.Answers.{Verdict}
 use Rattle.script.specs.Replies.{head_counts, reading_reply, verdict_reply, Reads, Tells}
 use Rattle.file.specs.AcceptedFile.{AcceptedFile}
 use Rattle.annotation.specs.Checks.{check_refusal}
 use Rattle.cells.specs.Room.{heap_suffices}
-use Rattle.plainrun.specs.declared.Reply as Ran
-use Rattle.plainrun.specs.Running.{ran, running, replied, Runs}
+use Rattle.plainrun.specs.Running.{Told, ran, running, replied, Runs}
 use Rattle.bands.specs.Rows.{Band, band_at, FallsIn, GoodRows}
 use Rattle.bands.specs.BandScript.{band_script, band_nodes, band_length}
 use Rattle.bands.specs.Calls.{Columns, rows_in}
@@ -70,5 +69,5 @@ pub record ServesCalls (m : ℕ) (x : Columns) (left : List ℕ) (y z : Tables) 
   pub checked : (v : Verdict) → Tells (check_refusal 0 1 (band_nodes m) z) v → (verdict_reply v).number ≡ 0
   pub graded :
       (reading : ℤ) → Fits32 reading → (k : ℕ) → FallsIn reading (rows_in m x) k → (heap after : List ℕ) → heap_suffices max_fuel (length heap) ≡ true →
-      (a : Ran.Reply) → Runs (record { types = 0; inputs = 1; nodes = band_nodes m }) z (reading ∷ []) max_fuel heap after a →
+      (a : Told) → Runs (record { types = 0; inputs = 1; nodes = band_nodes m }) z (reading ∷ []) max_fuel heap after a →
       (steps : ℕ) × (replied a ≡ ran (a_number (band_at (rows_in m x) k).grade) steps) × (steps ≤ band_steps m)

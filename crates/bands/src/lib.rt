@@ -4,7 +4,7 @@
 
 pub mod maker;
 mod nodes;
-mod rows;
+pub mod rows;
 
 // A node of the script, as the columns of a script hold it.
 #[derive(Clone, Copy)]

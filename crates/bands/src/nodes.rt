@@ -1,22 +1,63 @@
 // The nodes of the rows' script, each by its number. A row before the last has six nodes: the input, the next low, its lift, `<`, the grade, its lift; the
-// last row has the last two of them; then stands the if of each row before the last, the last such row first. The highs are handed on for the contracts,
-// which speak of rows.
+// last row has the last two of them; then stands the if of each row before the last, the last such row first.
 ghost use Rattle.std.specs.Prelude.{◌≡◌, ◌*◌, ◌<◌, pos};
 ghost use Rattle.lambdamix.specs.Script.{node_at};
 ghost use Rattle.lambdamix.specs.Code.{node};
+ghost use Rattle.script.specs.KindRows.{kind_number};
 ghost use Rattle.bands.specs.BandScript.{band_script, band_nodes};
-ghost use Rattle.bands.specs.Calls.{columns_of, rows_in};
+ghost use Rattle.bands.specs.Calls.{columns_in, rows_in};
 ghost use Rattle.bands.specs.Steps.{node_in, part_node, PartAt, PutNode, RowCount, Long, HoldsNodes};
 
 use crate::BandNode;
-use script::column::{at32, put8, put16, put32};
+use crate::rows::{MAX_ROWS, Rows};
+use lambdamix::{Operator, Step};
+use script::column::{at, put};
 use script::{Name, NodeNumber};
+
+// The nodes of the script of the most rows.
+const MAX_BAND_NODES: usize = 7 * (MAX_ROWS as usize) - 5;
+
+// Columns of as many nodes.
+#[derive(Drop)]
+pub(crate) struct BandColumns {
+    pub kinds: [u8; MAX_BAND_NODES],
+    pub a: [u16; MAX_BAND_NODES],
+    pub b: [u16; MAX_BAND_NODES],
+    pub c: [u16; MAX_BAND_NODES],
+    pub values: [i32; MAX_BAND_NODES],
+}
+
+impl BandColumns {
+    // Zeros in every place.
+    fn new() -> Self
+        ensures { Long MAX_BAND_NODES result.kinds result.a result.b result.c result.values }
+    {
+        BandColumns {
+            kinds: [0; MAX_BAND_NODES],
+            a: [0; MAX_BAND_NODES],
+            b: [0; MAX_BAND_NODES],
+            c: [0; MAX_BAND_NODES],
+            values: [0; MAX_BAND_NODES],
+        }
+    }
+
+    // A node into its place.
+    fn put(&mut self, i: usize, d: BandNode)
+        ensures { PutNode self.old.kinds self.old.a self.old.b self.old.c self.old.values i (node_in d) self.new.kinds self.new.a self.new.b self.new.c self.new.values }
+    {
+        put(&mut self.kinds, i, d.kind);
+        put(&mut self.a, i, d.a);
+        put(&mut self.b, i, d.b);
+        put(&mut self.c, i, d.c);
+        put(&mut self.values, i, d.value);
+    }
+}
 
 fn constant(value: i32) -> BandNode
     ensures { node_in result ≡ node 0 0 0 0 value }
 {
     BandNode {
-        kind: 0,
+        kind: Step::Constant as u8,
         a: 0,
         b: 0,
         c: 0,
@@ -24,12 +65,12 @@ fn constant(value: i32) -> BandNode
     }
 }
 
-// A step without a value.
-fn step(kind: u8, a: u16, b: u16, c: u16) -> BandNode
-    ensures { node_in result ≡ node kind a b c (pos 0) }
+// A step without a value; then a function for each sort of node that the script of rows has.
+fn step(step: Step, a: u16, b: u16, c: u16) -> BandNode
+    ensures { node_in result ≡ node (kind_number step) a b c (pos 0) }
 {
     BandNode {
-        kind,
+        kind: step as u8,
         a,
         b,
         c,
@@ -40,26 +81,26 @@ fn step(kind: u8, a: u16, b: u16, c: u16) -> BandNode
 fn variable(x: Name) -> BandNode
     ensures { node_in result ≡ node 1 x.0 0 0 (pos 0) }
 {
-    step(1, x.0, 0, 0)
+    step(Step::Variable, x.0, 0, 0)
 }
 
 fn lift(child: NodeNumber) -> BandNode
     ensures { node_in result ≡ node 2 child.0 0 0 (pos 0) }
 {
-    step(2, child.0, 0, 0)
+    step(Step::Lift, child.0, 0, 0)
 }
 
 // Late `<`, and a late if.
 fn less(a: NodeNumber, b: NodeNumber) -> BandNode
     ensures { node_in result ≡ node 12 a.0 b.0 5 (pos 0) }
 {
-    step(12, a.0, b.0, 5)
+    step(Step::DynamicOperation, a.0, b.0, Operator::Less as u16)
 }
 
 fn choice(a: NodeNumber, b: NodeNumber, c: NodeNumber) -> BandNode
     ensures { node_in result ≡ node 11 a.0 b.0 c.0 (pos 0) }
 {
-    step(11, a.0, b.0, c.0)
+    step(Step::DynamicIf, a.0, b.0, c.0)
 }
 
 // Node i of a row, where the row's next low and its grade are these: parts 0 to 5 in their order.
@@ -85,24 +126,19 @@ fn first_of(row: u16) -> NodeNumber
 }
 
 // Node i of the script.
-fn node(count: u16, low: &[i32], high: &[i32], grade: &[i32], i: NodeNumber) -> BandNode
+fn node(count: u16, rows: &Rows, i: NodeNumber) -> BandNode
     requires row_count { RowCount count }
     requires i_bound { i.0 < band_nodes count }
-    ensures { node_in result ≡ node_at (band_script (rows_in count (columns_of low.now high.now grade.now))) i.0 }
+    ensures { node_in result ≡ node_at (band_script (rows_in count (columns_in rows.now))) i.0 }
 {
     let last = count - 1;
     let after = first_of(last);
     if i.0 < after.0 {
-        let row = i.0 / 6;
-        return part(
-            i.0 % 6,
-            i,
-            at32(low, (row + 1) as usize),
-            at32(grade, row as usize),
-        );
+        let row = (i.0 / 6) as usize;
+        return part(i.0 % 6, i, at(rows.low, row + 1, 0), at(rows.grade, row, 0));
     }
     if i.0 < after.0 + 2 {
-        return part(i.0 - after.0 + 4, i, 0, at32(grade, last as usize));
+        return part(i.0 - after.0 + 4, i, 0, at(rows.grade, last as usize, 0));
     }
     let first = first_of(after.0 + last + 1 - i.0);
     choice(
@@ -112,46 +148,15 @@ fn node(count: u16, low: &[i32], high: &[i32], grade: &[i32], i: NodeNumber) -> 
     )
 }
 
-// A node into its place of the columns.
-fn put_node(
-    kinds: &mut [u8],
-    a: &mut [u16],
-    b: &mut [u16],
-    c: &mut [u16],
-    values: &mut [i32],
-    i: usize,
-    d: BandNode,
-)
-    ensures { PutNode kinds.old a.old b.old c.old values.old i (node_in d) kinds.new a.new b.new c.new values.new }
+// All nodes of the script, from the first on, in columns that are long enough.
+pub(crate) fn fill_nodes(count: u16, rows: &Rows) -> BandColumns
+    requires { RowCount count }
+    ensures held { HoldsNodes count (columns_in rows.now) (band_nodes count) result.kinds result.a result.b result.c result.values }
+    ensures long { Long (band_nodes count) result.kinds result.a result.b result.c result.values }
 {
-    put8(kinds, i, d.kind);
-    put16(a, i, d.a);
-    put16(b, i, d.b);
-    put16(c, i, d.c);
-    put32(values, i, d.value);
-}
-
-// All nodes of the script, from the first on, into columns that are long enough.
-pub(crate) fn fill_nodes(
-    count: u16,
-    low: &[i32],
-    high: &[i32],
-    grade: &[i32],
-    kinds: &mut [u8],
-    a: &mut [u16],
-    b: &mut [u16],
-    c: &mut [u16],
-    values: &mut [i32],
-)
-    requires row_count { RowCount count }
-    requires long { Long (band_nodes count) kinds.old a.old b.old c.old values.old }
-    ensures { HoldsNodes count (columns_of low.now high.now grade.now) (band_nodes count) kinds.new a.new b.new c.new values.new }
-{
-    let nodes = 7 * count - 5;
-    let mut i: u16 = 0;
-    while i < nodes {
-        let d = node(count, low, high, grade, NodeNumber(i));
-        put_node(kinds, a, b, c, values, i as usize, d);
-        i += 1;
+    let mut nodes = BandColumns::new();
+    for i in 0..7 * count - 5 {
+        nodes.put(i as usize, node(count, rows, NodeNumber(i)));
     }
+    nodes
 }

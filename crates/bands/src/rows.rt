@@ -1,15 +1,18 @@
-// Rows: refusals 1, 30, 31 and 32. A function that looks at two columns is handed all three, since its contract speaks of rows.
-ghost use Rattle.std.specs.Prelude.{◌≡◌, suc, ◌≤◌};
+// Rows: refusals 1, 30, 31 and 32.
+ghost use Rattle.std.specs.Prelude.{◌≡◌, suc};
 ghost use Rattle.std.proofs.Math.IntN.{suc_ℤ};
 ghost use Rattle.std.specs.Int.Signed.{le_z};
 ghost use Rattle.lambdamix.specs.Refusal.{first_failing, refused_at};
-ghost use Rattle.script.specs.Verdicts.{refusal_of};
-ghost use Rattle.bands.specs.Rows.{max_rows, band_right, band_at, above_before, joins_before, rows_refusal};
-ghost use Rattle.bands.specs.Calls.{columns_of, rows_in, columns_refusal};
+ghost use Rattle.script.specs.Causes.{cause_number};
+ghost use Rattle.script.specs.Verdicts.{found_at, refusal_of};
+ghost use Rattle.bands.specs.Rows.{band_right, band_at, above_before, joins_before, rows_refusal};
+ghost use Rattle.bands.specs.Calls.{columns_in, columns_long, row_in, rows_in, columns_refusal};
 ghost use Rattle.bands.specs.Steps.{above_in, left_in, start_in};
 
-use script::column::at32;
-use script::{Refusal, Verdict};
+use script::Refusal;
+use script::cause::Cause;
+use script::column::at;
+use script::search::first_failing;
 
 // "It takes 1 to 32 rows"
 pub(crate) const MAX_ROWS: u16 = 32;
@@ -22,159 +25,145 @@ const LOWEST: i64 = -2147483648;
 
 const PAST_HIGHEST: i64 = 2147483648;
 
+// Rows as a caller lends them: a column each for low, high and grade.
+#[derive(Clone, Copy)]
+pub struct Rows<'a> {
+    pub low: &'a [i32],
+    pub high: &'a [i32],
+    pub grade: &'a [i32],
+}
+
+impl Rows<'_> {
+    // Whether the columns hold as many rows as are counted.
+    #[tactic(auto, unfolding(crate::specs::Calls::columns_long))]
+    fn hold(&self, count: u16) -> bool
+        ensures { result ≡ columns_long count (columns_in self.now) }
+    {
+        let rows = count as usize;
+        rows <= self.low.len() && rows <= self.high.len() && rows <= self.grade.len()
+    }
+}
+
 // A row by itself: low not above high, and a grade of the range.
 fn band_right(low: i32, high: i32, grade: i32) -> bool
     ensures { result ≡ band_right (record { low = low; high = high; grade = grade }) }
 {
-    if low <= high {
-        if 0 <= grade {
-            return grade <= MAX_GRADE;
-        }
-    }
-    false
+    low <= high && 0 <= grade && grade <= MAX_GRADE
 }
 
-// 30: the first row that is not right by itself.
-fn wrong_row(count: u16, low: &[i32], high: &[i32], grade: &[i32]) -> Verdict
-    ensures { refusal_of result ≡ refused_at 30 (first_failing (λ k. band_right (band_at (rows_in count (columns_of low.now high.now grade.now)) k)) 0 count) }
+// Whether row k is right by itself.
+fn row_right(rows: &Rows, k: usize) -> bool
+    ensures { result ≡ band_right (row_in (columns_in rows.now) k) }
 {
-    let mut k: u16 = 0;
-    while k < count {
-        let row = k as usize;
-        if band_right(at32(low, row), at32(high, row), at32(grade, row)) {
-            k += 1;
-        } else {
-            return Verdict::Refused(Refusal {
-                number: 30,
-                place: row,
-            });
-        }
-    }
-    Verdict::Passed
+    band_right(
+        at(rows.low, k, 0),
+        at(rows.high, k, 0),
+        at(rows.grade, k, 0),
+    )
 }
 
 // Whether row k is above the row before it, if there is one.
-fn above_before(low: &[i32], high: &[i32], k: u16) -> bool
-    ensures { result ≡ above_in low.now high.now k }
+fn above_before(rows: &Rows, k: usize) -> bool
+    ensures { result ≡ above_in rows.now.low.now rows.now.high.now k }
 {
-    if k < 1 {
-        return true;
-    }
-    at32(high, (k - 1) as usize) < at32(low, k as usize)
+    k < 1 || at(rows.high, k - 1, 0) < at(rows.low, k, 0)
 }
 
-// A number in 64 bits, and the next one.
-fn wide(z: i32) -> i64
-    ensures { result ≡ z }
-{
-    z as i64
-}
-
+// The number after this one, in 64 bits.
 fn next(z: i32) -> i64
     ensures { result ≡ suc_ℤ z }
 {
-    (z as i64) + 1
+    i64::from(z) + 1
 }
 
 // The lowest reading that the rows before row k leave.
-fn left_at(high: &[i32], k: u16) -> i64
+fn left_at(high: &[i32], k: usize) -> i64
     ensures { result ≡ left_in high.now k }
 {
     if k < 1 {
-        return LOWEST;
+        LOWEST
+    } else {
+        next(at(high, k - 1, 0))
     }
-    next(at32(high, (k - 1) as usize))
 }
 
 // From where row k takes readings; after the last row, from past the range.
-fn start_at(low: &[i32], count: u16, k: u16) -> i64
+fn start_at(low: &[i32], count: u16, k: usize) -> i64
     ensures { result ≡ start_in low.now count k }
 {
-    if k < count {
-        return wide(at32(low, k as usize));
+    if k < (count as usize) {
+        i64::from(at(low, k, 0))
+    } else {
+        PAST_HIGHEST
     }
-    PAST_HIGHEST
 }
 
 // Whether no reading is left out before row k.
-fn joins_before(low: &[i32], high: &[i32], count: u16, k: u16) -> bool
-    ensures { result ≡ le_z (start_in low.now count k) (left_in high.now k) }
+fn joins_before(rows: &Rows, count: u16, k: usize) -> bool
+    ensures { result ≡ le_z (start_in rows.now.low.now count k) (left_in rows.now.high.now k) }
 {
-    start_at(low, count, k) <= left_at(high, k)
+    start_at(rows.low, count, k) <= left_at(rows.high, k)
+}
+
+// The refusal by a cause at the first row that fails, if one does.
+#[tactic(auto, unfolding(script::specs::Verdicts::found_at, script::specs::Verdicts::refusal_of, lambdamix::specs::Refusal::refused_at))]
+fn refused_at(cause: Cause, failing: Option<usize>) -> Result<(), Refusal>
+    ensures { refusal_of result ≡ refused_at (cause_number cause) (found_at failing) }
+{
+    match failing {
+        None => Ok(()),
+        Some(place) => Err(cause.at(place)),
+    }
+}
+
+// 30: the first row that is not right by itself.
+fn wrong_row(count: u16, rows: &Rows) -> Result<(), Refusal>
+    ensures { refusal_of result ≡ refused_at 30 (first_failing (λ k. band_right (band_at (rows_in count (columns_in rows.now)) k)) 0 count) }
+{
+    refused_at(
+        Cause::BadRow,
+        first_failing(count as usize, |k| row_right(rows, k)),
+    )
 }
 
 // 31: the first row whose low is not above the row before's high.
-fn overlap(count: u16, low: &[i32], high: &[i32], grade: &[i32]) -> Verdict
-    ensures { refusal_of result ≡ refused_at 31 (first_failing (above_before (rows_in count (columns_of low.now high.now grade.now))) 0 count) }
+fn overlap(count: u16, rows: &Rows) -> Result<(), Refusal>
+    ensures { refusal_of result ≡ refused_at 31 (first_failing (above_before (rows_in count (columns_in rows.now))) 0 count) }
 {
-    let mut k: u16 = 0;
-    while k < count {
-        if above_before(low, high, k) {
-            k += 1;
-        } else {
-            return Verdict::Refused(Refusal {
-                number: 31,
-                place: k as usize,
-            });
-        }
-    }
-    Verdict::Passed
+    refused_at(
+        Cause::Overlap,
+        first_failing(count as usize, |k| above_before(rows, k)),
+    )
 }
 
 // 32: the first row behind a gap, or the count of rows.
-fn gap(count: u16, low: &[i32], high: &[i32], grade: &[i32]) -> Verdict
-    requires { count ≤ max_rows }
-    ensures { refusal_of result ≡ refused_at 32 (first_failing (joins_before (rows_in count (columns_of low.now high.now grade.now))) 0 (suc count)) }
+fn gap(count: u16, rows: &Rows) -> Result<(), Refusal>
+    ensures { refusal_of result ≡ refused_at 32 (first_failing (joins_before (rows_in count (columns_in rows.now))) 0 (suc count)) }
 {
-    let mut k: u16 = 0;
-    while k <= count {
-        if joins_before(low, high, count, k) {
-            k += 1;
-        } else {
-            return Verdict::Refused(Refusal {
-                number: 32,
-                place: k as usize,
-            });
-        }
-    }
-    Verdict::Passed
+    refused_at(
+        Cause::Gap,
+        first_failing((count as usize) + 1, |k| joins_before(rows, count, k)),
+    )
 }
 
 // All rows are tried for 30, then for 31, then for 32.
-fn rows_refusal(count: u16, low: &[i32], high: &[i32], grade: &[i32]) -> Verdict
-    ensures { refusal_of result ≡ rows_refusal (rows_in count (columns_of low.now high.now grade.now)) }
+fn rows_refusal(count: u16, rows: &Rows) -> Result<(), Refusal>
+    ensures { refusal_of result ≡ rows_refusal (rows_in count (columns_in rows.now)) }
 {
-    if 1 <= count {
-        if count <= MAX_ROWS {
-            return match wrong_row(count, low, high, grade) {
-                Verdict::Refused(f) => Verdict::Refused(f),
-                Verdict::Passed => match overlap(count, low, high, grade) {
-                    Verdict::Refused(f) => Verdict::Refused(f),
-                    Verdict::Passed => gap(count, low, high, grade),
-                },
-            };
-        }
+    if count < 1 || MAX_ROWS < count {
+        return Err(Cause::BadRow.at(0));
     }
-    Verdict::Refused(Refusal {
-        number: 30,
-        place: 0,
-    })
+    wrong_row(count, rows)?;
+    overlap(count, rows)?;
+    gap(count, rows)
 }
 
 // Columns shorter than the count: 1 [0]; then 30 to 32.
-pub(crate) fn columns_refusal(count: u16, low: &[i32], high: &[i32], grade: &[i32]) -> Verdict
-    ensures { refusal_of result ≡ columns_refusal count (columns_of low.now high.now grade.now) }
+pub(crate) fn columns_refusal(count: u16, rows: &Rows) -> Result<(), Refusal>
+    ensures { refusal_of result ≡ columns_refusal count (columns_in rows.now) }
 {
-    let rows = count as usize;
-    if rows <= low.len() {
-        if rows <= high.len() {
-            if rows <= grade.len() {
-                return rows_refusal(count, low, high, grade);
-            }
-        }
+    if !rows.hold(count) {
+        return Err(Cause::WrongLength.at(0));
     }
-    Verdict::Refused(Refusal {
-        number: 1,
-        place: 0,
-    })
+    rows_refusal(count, rows)
 }

@@ -3,20 +3,9 @@
 #![tactic(auto)]
 
 use respond::answer::respond;
-use script::Writing;
-use standard::input::read_input;
-use standard::output::print;
-use streams::limits::MAX_BYTES;
+use standard::program::run;
 
 // A write that fails is not told.
 fn main(rt: HostRuntime) {
-    let mut space = [0u8; MAX_BYTES];
-    let n = read_input(&mut rt.stdin(), &mut space);
-    let mut out = [0u8; MAX_BYTES];
-    match respond(&space[..n], &mut out) {
-        Writing::Written(k) => {
-            let _ = print(&mut rt.stdout(), &out, k);
-        }
-        Writing::Refused(_) => {}
-    }
+    let _ = run(&mut rt.stdin(), &mut rt.stdout(), respond);
 }

@@ -8,6 +8,7 @@ use native.Mathlib.Omega.{arith}
 use lib.ListN.{length}
 use lib.Dec.{leb}
 use borrow.Author.Tests.{leb-true, le-leb, lt-leb}
+use Rattle.std.specs.Prelude.{Ok, Err}
 use Rattle.lambdamix.specs.Limits.{max_nodes, max_height}
 use Rattle.lambdamix.specs.Text.{ascii}
 use Rattle.lambdamix.specs.Script.{Script}
@@ -23,7 +24,6 @@ use Rattle.file.proofs.RecordLaws.{records_length}
 use Rattle.file.proofs.Layouts.{input_layout}
 use Rattle.file.proofs.FileLaws.{file_length_lem}
 use Rattle.file.proofs.WritingLaws.{put_length, put_both, put_same, put_over}
-use Rattle.emission.specs.declared.Finish.TheVariants as Finish
 use Rattle.residual.specs.Cells.{Counted}
 use Rattle.residual.specs.AfterRun.{written_by, after_run}
 use Rattle.emission.specs.Emission.{reply_of, outcome}
@@ -89,7 +89,7 @@ module _ (s : Script) (g : ℕ → ℕ) (count : ℕ) (i : s.inputs ≡ numbered
   module _ (k : ℕ) (f : fits c ≡ true) {before : List ℕ} where
     pub finish_written :
         {after : List ℕ} → file_length 0 count n ≤ length before → Put before 0 (file_bytes (written s c)) after →
-        outcome (Finish.Written n) k after ≡ after_run s (finished c k) before
+        outcome (Ok n) k after ≡ after_run s (finished c k) before
     unfolding reply_of after_run written_by
     finish_written h p =
         let l : length (file_bytes (written s c)) ≤ length before = omega (arith, file_size) in
@@ -97,7 +97,7 @@ module _ (s : Script) (g : ℕ → ℕ) (count : ℕ) (i : s.inputs ≡ numbered
 
     pub finish_short :
         length before < file_length 0 count n →
-        outcome (Finish.Refused (record { number = 21; place = 0 })) k before ≡ after_run s (finished c k) before
+        outcome (Err (record { number = 21; place = 0 })) k before ≡ after_run s (finished c k) before
     unfolding reply_of after_run written_by
     finish_short h =
         let l : length before < length (file_bytes (written s c)) = omega (arith, file_size) in
@@ -105,6 +105,6 @@ module _ (s : Script) (g : ℕ → ℕ) (count : ℕ) (i : s.inputs ≡ numbered
 
 pub finish_unfit :
     (s : Script) (c : Code) (k : ℕ) {before : List ℕ} → fits c ≡ false →
-    outcome (Finish.Refused (record { number = 26; place = 0 })) k before ≡ after_run s (finished c k) before
+    outcome (Err (record { number = 26; place = 0 })) k before ≡ after_run s (finished c k) before
 unfolding reply_of after_run written_by
 finish_unfit s c k f = rw f

@@ -1,12 +1,13 @@
 -- The answers of the code that writes residual code and ends a run, in the terms of the definitions. Assumes nothing.
-use Rattle.std.specs.Prelude.{ℕ, ◌+◌, ◌*◌, ◌≤◌, ◌<◌, ◌≡◌, List, [], ◌∷◌, ◌++◌, length}
+use Rattle.std.specs.Prelude.{ℕ, ◌+◌, ◌*◌, ◌≤◌, ◌<◌, ◌≡◌, List, [], ◌∷◌, ◌++◌, length, Ok, Err}
 use Rattle.lambdamix.specs.declared.Use.{Use}
 use Rattle.lambdamix.specs.Limits.{max_nodes}
 use Rattle.lambdamix.specs.Script.{Node}
 use Rattle.lambdamix.specs.Code.{Code, Codes, nil_c, last_node, number_after, nodes_from, all_nodes_from}
 use Rattle.script.specs.File.{node_bytes, records}
 use Rattle.file.specs.Written.{Put}
-use Rattle.emission.specs.declared.Finish.{Finish}
+use Rattle.std.specs.declared.result.Result.{Result}
+use Rattle.script.specs.declared.Refusal as Coded
 use Rattle.residual.specs.Cells.{piece_by, field_by}
 use Rattle.lambdamix.specs.Refusal.{refusal}
 use Rattle.residual.specs.AfterRun.{Reply, made, unmade, Made}
@@ -36,10 +37,14 @@ pub record EmitsField (u : Use) (c : Code) (f base k : ℕ) (before after' : Lis
   pub value : v ≡ field_by u f (last_node k c)
   pub pieces : EmitsAll (piece_by u c nil_c) base k before after' n
 
+-- how a run that gave code ends: with the count of its written nodes, or refused
+abbrev pub Finish : Type 0
+Finish = Result ℕ Coded.Refusal
+
 -- the reply to a call whose run took these steps
 unfoldable pub reply_of : Finish → ℕ → Reply
-reply_of (Finish.Written n) k = made k n
-reply_of (Finish.Refused f) k = unmade (refusal f.number f.place) k
+reply_of (Ok n) k = made k n
+reply_of (Err f) k = unmade (refusal f.number f.place) k
 
 -- what the call then gives
 abbrev pub outcome : Finish → ℕ → List ℕ → Made

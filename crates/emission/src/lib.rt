@@ -2,12 +2,3 @@
 #![tactic(auto)]
 
 pub mod emit;
-
-use script::Refusal;
-
-// How a run that gave code ends: with the count of its written nodes, or without a file.
-#[derive(Clone, Copy)]
-pub enum Finish {
-    Written(u16),
-    Refused(Refusal),
-}

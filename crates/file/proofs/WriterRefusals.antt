@@ -11,7 +11,7 @@ use Rattle.script.specs.Refusals.{file_refusal}
 use Rattle.script.specs.Tables.{Tables, tables_script, long_enough, tables_refusal, room_refusal, write_refusal}
 use Rattle.script.proofs.Rows.{type_count_lem, input_count_lem, node_count_lem, type_row, input_row, node_row}
 use Rattle.script.specs.declared.Counts.{Counts}
-use Rattle.script.specs.declared.Writing.{Writing}
+use Rattle.script.specs.Answers.{Writing}
 use Rattle.script.specs.Replies.{replying, writing_reply, Writes}
 use Rattle.script.specs.Widths.{LentTables}
 use Rattle.file.specs.Encodable.{Encodable}

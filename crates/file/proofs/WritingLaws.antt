@@ -6,7 +6,9 @@ use mathlib.Core.List.{List, [], ◌∷◌, ◌++◌, append_assoc, append-nil}
 use native.Mathlib.Nat.{zero-add}
 use native.Mathlib.Numerals.{add-one}
 use native.Mathlib.Omega.{arith}
-use lib.ListN.{length, drop, set, length-set}
+use lib.ListN.{length, take, drop, set, length-set}
+use borrow.Rule.Slice.PartMut.{put_mid}
+use Rattle.std.proofs.lemmas.List.{drop-drop}
 use lib.Seq.{sets, sets-eq, set_out, length-sets}
 use Rattle.script.specs.File.{records, numbered}
 use Rattle.script.specs.Tables.{over}
@@ -59,6 +61,15 @@ sets_at_lem (v ∷ vs) l i k =
 pub put_places : (v : ℕ) (vs l : List ℕ) (i : ℕ) → Put l i (v ∷ vs) (sets_at (set l i v) i 1 vs)
 put_places v vs l i = record { puts = sets_at_lem vs (set l i v) i 1 ∙ ap (λ (n : ℕ). sets (set l i v) n vs) (add-one i) }
 
+-- a part of the output that other bytes take the place of
+pub put_part : {vs ws l : List ℕ} {i k : ℕ} → ws ≡ vs → k ≡ length vs → i + k ≤ length l → Put l i vs (put_mid i k l ws)
+put_part {vs} {l = l} {i} e n h =
+    record {
+      puts =
+          rw (e, n, drop-drop (length vs) i l) (sym (append_assoc (take i l) vs _))
+          ∙ sym (sets-eq vs l i (omega arith));
+    }
+
 -- from the first place on, with room for all
 pub put_over : {vs l m : List ℕ} → Put l 0 vs m → length vs ≤ length l → m ≡ over vs l
 unfolding over
@@ -82,29 +93,6 @@ unfolding records
 records_one_more f g j =
     rw (add-one j, numbered_more g 0 j, records_append f (numbered g 0 j) (g (0 + j) ∷ []), append-nil (f (g (0 + j))), zero-add j)
 
--- the records of the first j things stand from o on; the next is set behind them
-put_record :
-    {A : Type 0} (L : Layout A) (g : ℕ → A) (o j : ℕ) {l k m : List ℕ} → Put l o (records L.write (numbered g 0 j)) k
-    → Put k (o + L.size * j) (L.write (g j)) m → Put l o (records L.write (numbered g 0 (j + 1))) m
-put_record L g o j p q =
-    let e : L.size * j ≡ length (records L.write (numbered g 0 j)) =
-    sym (records_length L (numbered g 0 j) ∙ ap (λ (n : ℕ). L.size * n) (length_numbered g 0 j)) in
-    rw (records_one_more L.write g j) (put_both p (ap (λ (n : ℕ). o + n) e) q)
-
--- ---- a loop that puts records from o on: after j of n
-
--- the first record of any kind stands below this place
-abbrev pub first_limit : ℕ
-first_limit = 8 + 10 * 65536
-
-pub record Progress {A : Type 0} (L : Layout A) (g : ℕ → A) (o n : ℕ) (before after : List ℕ) (j : ℕ) : Type 0 where
-  pub bound : j ≤ n
-  -- the counts have 16 bits, so no place wraps
-  pub few : n < 65536
-  pub low : o < first_limit
-  pub kept : length after ≡ length before
-  pub put : Put before o (records L.write (numbered g 0 j)) after
-
 pub put_length : {l m vs : List ℕ} {i : ℕ} → Put l i vs m → length m ≡ length l
 put_length {l} {m} {vs} {i} p = ap length p.puts ∙ length-sets l i vs
 
@@ -112,24 +100,20 @@ put_length {l} {m} {vs} {i} p = ap length p.puts ∙ length-sets l i vs
 pub put_same : {l m vs ws : List ℕ} {i : ℕ} → vs ≡ ws → Put l i vs m → Put l i ws m
 put_same {l} {m} {vs} {ws} {i} e p = subst (λ (bs : List ℕ). Put l i bs m) e p
 
-module _ {A : Type 0} {L : Layout A} {g : ℕ → A} {o n : ℕ} {before : List ℕ} where
-  pub progress_none : n < 65536 → o < first_limit → Progress L g o n before before 0
-  unfolding records numbered
-  progress_none f l = record { bound = omega arith; few = f; low = l; kept = refl; put = record { puts = refl } }
+-- the records of the first j things stand from o on, at first none; the next is set behind them, up to the last
+pub put_no_record : {A : Type 0} (L : Layout A) (g : ℕ → A) (o : ℕ) (l : List ℕ) → Put l o (records L.write (numbered g 0 0)) l
+unfolding records numbered
+put_no_record L g o l = record { puts = refl }
 
-  pub progress_more :
-      {after m : List ℕ} {j : ℕ} → Progress L g o n before after j → j < n → Put after (o + L.size * j) (L.write (g j)) m
-      → Progress L g o n before m (j + 1)
-  progress_more {after} {m} {j} p l q =
-      record {
-        bound = omega arith;
-        few = p.few;
-        low = p.low;
-        kept = put_length q ∙ p.kept;
-        put = put_record L g o j p.put q;
-      }
+pub put_record :
+    {A : Type 0} (L : Layout A) (g : ℕ → A) (o j : ℕ) {l k m : List ℕ} {at : ℕ} {vs : List ℕ} → Put l o (records L.write (numbered g 0 j)) k
+    → at ≡ o + L.size * j → vs ≡ L.write (g j) → Put k at vs m → Put l o (records L.write (numbered g 0 (j + 1))) m
+put_record L g o j p a w q =
+    let e : L.size * j ≡ length (records L.write (numbered g 0 j)) =
+    sym (records_length L (numbered g 0 j) ∙ ap (λ (n : ℕ). L.size * n) (length_numbered g 0 j)) in
+    rw (records_one_more L.write g j) (put_both p (a ∙ ap (λ (n : ℕ). o + n) e) (rw w at q))
 
-  pub progress_all :
-      {after : List ℕ} {i j : ℕ} → Progress L g o n before after j → n ≤ j → o ≡ i
-      → Put before i (records L.write (numbered g 0 n)) after
-  progress_all {j = j} p l h = let e : j ≡ n = omega (arith, p.bound) in rw (← h, ← e) p.put
+pub put_records :
+    {A : Type 0} (L : Layout A) (g : ℕ → A) (o : ℕ) {j n : ℕ} {l m : List ℕ} → Put l o (records L.write (numbered g 0 j)) m
+    → j ≤ n → n ≤ j → Put l o (records L.write (numbered g 0 n)) m
+put_records L g o {j} {n} p h k = let e : j ≡ n = omega arith in rw (← e) p

@@ -3,35 +3,26 @@ ghost use Rattle.std.specs.Prelude.{◌+◌, ◌≤◌, length, [], ◌∷◌};
 ghost use Rattle.script.specs.Columns.{inputs_in, nodes_in, types_in};
 ghost use Rattle.script.specs.Bytes.{bytes16, bytes32};
 ghost use Rattle.script.specs.File.{type_bytes, input_bytes, node_bytes, records, numbered, file_bytes, type_offset, input_offset, node_offset, file_length};
-ghost use Rattle.script.specs.Tables.{tables_script, tables_of};
+ghost use Rattle.script.specs.Tables.{tables_script, tables_in};
 ghost use Rattle.script.specs.Replies.{Writes};
 ghost use Rattle.script.specs.Verdicts.{Fitted};
 ghost use Rattle.file.specs.Written.{Put, PutWhole, head_row, node_parts};
 
+use script::cause::Cause;
+use script::columns::Columns;
 use script::place::{file_size, input_offset, node_offset, type_offset};
 use script::widths::tables_fit;
 use script::word::bits;
-use script::{Counts, Name, NodeNumber, Refusal, TypeNumber, Verdict, Writing, column};
+use script::{Counts, Name, NodeNumber, Refusal, TypeNumber, column};
 use tables::refusal::tables_refusal;
-
-// Bytes are below this, in a number of 16 bits and in one of 32; then the units of the second, third and fourth byte.
-const BYTE: u16 = 256;
-
-const BYTE_32: u32 = 256;
-
-const SECOND: u32 = 256;
-
-const THIRD: u32 = 65536;
-
-const FOURTH: u32 = 16777216;
 
 // Two bytes at a place.
 fn pair_at(out: &mut [u8], at: usize, first: u8, second: u8)
     ensures { Put out.old at (first ∷ second ∷ []) out.new }
 {
     if at < out.len() {
-        column::put8(out, at, first);
-        column::put8(out, at + 1, second);
+        column::put(out, at, first);
+        column::put(out, at + 1, second);
     }
 }
 
@@ -39,8 +30,7 @@ fn pair_at(out: &mut [u8], at: usize, first: u8, second: u8)
 fn word_at(out: &mut [u8], at: usize, v: u16)
     ensures { Put out.old at (bytes16 v) out.new }
 {
-    let low = (v % BYTE) as u8;
-    let high = (v / BYTE % BYTE) as u8;
+    let [low, high] = v.to_le_bytes();
     pair_at(out, at, low, high)
 }
 
@@ -75,23 +65,19 @@ fn input_at(out: &mut [u8], at: usize, input: TypeNumber)
     }
 }
 
-// Where the output has room: a number of 16 bits and one of 32 by plain stores, then a node's record by its parts.
+// Where the output has room: a number of 16 bits and one of 32, then a node's record by its parts. There is one test of the room for all thirteen bytes.
 fn word_inside(out: &mut [u8], at: usize, v: u16)
     requires { at + 2 ≤ length out.old }
     ensures { Put out.old at (bytes16 v) out.new }
 {
-    out[at] = (v % BYTE) as u8;
-    out[at + 1] = (v / BYTE % BYTE) as u8;
+    out[at..at + 2].copy_from_slice(&v.to_le_bytes());
 }
 
 fn value_inside(out: &mut [u8], at: usize, w: u32)
     requires { at + 4 ≤ length out.old }
     ensures { Put out.old at (bytes32 w) out.new }
 {
-    out[at] = (w % BYTE_32) as u8;
-    out[at + 1] = (w / SECOND % BYTE_32) as u8;
-    out[at + 2] = (w / THIRD % BYTE_32) as u8;
-    out[at + 3] = (w / FOURTH % BYTE_32) as u8;
+    out[at..at + 4].copy_from_slice(&w.to_le_bytes());
 }
 
 fn node_inside(out: &mut [u8], at: usize, kind: u8, a: u16, b: u16, c: u16, w: u32)
@@ -118,126 +104,71 @@ pub fn node_at(out: &mut [u8], at: u32, kind: u8, a: u16, b: u16, c: u16, value:
 }
 
 // All records of a kind, one after the other, where the counts place them.
-fn types_at(out: &mut [u8], n: Counts, parameters: &[u16], results: &[u16])
-    ensures { Put out.old (type_offset 0) (records type_bytes (numbered (types_in parameters.now results.now) 0 n.types)) out.new }
+fn types_at(out: &mut [u8], n: Counts, columns: &Columns)
+    ensures { Put out.old (type_offset 0) (records type_bytes (numbered (types_in columns.now.parameters.now columns.now.results.now) 0 n.types)) out.new }
 {
-    let first = type_offset(0) as usize;
-    let count = n.types as usize;
-    let mut j: usize = 0;
-    while j < count {
-        let parameter = TypeNumber(column::at16(parameters, j));
-        let result = TypeNumber(column::at16(results, j));
-        type_at(out, first + 6 * j, parameter, result);
-        j += 1;
+    for j in 0..n.types {
+        let parameter = column::type_at(columns.parameters, j as usize);
+        let res = column::type_at(columns.results, j as usize);
+        type_at(out, type_offset(j) as usize, parameter, res);
     }
 }
 
 pub fn inputs_at(out: &mut [u8], n: Counts, inputs: &[u16])
     ensures { Put out.old (input_offset n.types 0) (records input_bytes (numbered (inputs_in inputs.now) 0 n.inputs)) out.new }
 {
-    let first = input_offset(n.types, Name(0)) as usize;
-    let count = n.inputs as usize;
-    let mut j: usize = 0;
-    while j < count {
-        let input = TypeNumber(column::at16(inputs, j));
-        input_at(out, first + 4 * j, input);
-        j += 1;
+    for j in 0..n.inputs {
+        let input = column::type_at(inputs, j as usize);
+        input_at(out, input_offset(n.types, Name(j)) as usize, input);
     }
 }
 
-fn nodes_at(
-    out: &mut [u8],
-    n: Counts,
-    kinds: &[u8],
-    a: &[u16],
-    b: &[u16],
-    c: &[u16],
-    values: &[i32],
-)
+// By number and not by `zip`: past a column's end stands 0.
+fn nodes_at(out: &mut [u8], n: Counts, columns: &Columns)
     requires { file_length n.types n.inputs n.nodes ≤ length out.old }
-    ensures { Put out.old (node_offset n.types n.inputs 0) (records node_bytes (numbered (nodes_in kinds.now a.now b.now c.now values.now) 0 n.nodes)) out.new }
+    ensures { Put out.old (node_offset n.types n.inputs 0) (records node_bytes (numbered (nodes_in columns.now.kinds.now columns.now.a.now columns.now.b.now columns.now.c.now columns.now.values.now) 0 n.nodes)) out.new }
 {
-    let first = node_offset(n.types, n.inputs, NodeNumber(0)) as usize;
-    let count = n.nodes as usize;
-    let mut j: usize = 0;
-    while j < count {
-        let kind = column::at8(kinds, j);
-        let fa = column::at16(a, j);
-        let fb = column::at16(b, j);
-        let fc = column::at16(c, j);
-        let value = column::at32(values, j);
-        node_at(out, (first + 13 * j) as u32, kind, fa, fb, fc, value);
-        j += 1;
+    for j in 0..n.nodes {
+        let place = node_offset(n.types, n.inputs, NodeNumber(j));
+        let i = j as usize;
+        let kind = column::at(columns.kinds, i, 0);
+        let a = column::at(columns.a, i, 0);
+        let b = column::at(columns.b, i, 0);
+        let c = column::at(columns.c, i, 0);
+        let value = column::at(columns.values, i, 0);
+        node_at(out, place, kind, a, b, c, value);
     }
 }
 
 // The whole file.
-fn emit(
-    n: Counts,
-    parameters: &[u16],
-    results: &[u16],
-    inputs: &[u16],
-    kinds: &[u8],
-    a: &[u16],
-    b: &[u16],
-    c: &[u16],
-    values: &[i32],
-    out: &mut [u8],
-)
+fn emit(n: Counts, columns: &Columns, out: &mut [u8])
     requires { file_length n.types n.inputs n.nodes ≤ length out.old }
-    ensures { Put out.old 0 (file_bytes (tables_script n.types n.inputs n.nodes (tables_of parameters.now results.now inputs.now kinds.now a.now b.now c.now values.now))) out.new }
+    ensures { Put out.old 0 (file_bytes (tables_script n.types n.inputs n.nodes (tables_in columns.now))) out.new }
 {
     head_at(out, 0, n);
-    types_at(out, n, parameters, results);
-    inputs_at(out, n, inputs);
-    nodes_at(out, n, kinds, a, b, c, values);
+    types_at(out, n, columns);
+    inputs_at(out, n, columns.inputs);
+    nodes_at(out, n, columns);
 }
 
 // The file if the output has room for it, else 21.
-fn fit(
-    n: Counts,
-    parameters: &[u16],
-    results: &[u16],
-    inputs: &[u16],
-    kinds: &[u8],
-    a: &[u16],
-    b: &[u16],
-    c: &[u16],
-    values: &[i32],
-    out: &mut [u8],
-) -> Writing
-    ensures { Fitted (file_bytes (tables_script n.types n.inputs n.nodes (tables_of parameters.now results.now inputs.now kinds.now a.now b.now c.now values.now))) out.old out.new result }
+fn fit(n: Counts, columns: &Columns, out: &mut [u8]) -> Result<usize, Refusal>
+    ensures { Fitted (file_bytes (tables_script n.types n.inputs n.nodes (tables_in columns.now))) out.old out.new result }
 {
     let size = file_size(n);
-    if size <= out.len() {
-        emit(n, parameters, results, inputs, kinds, a, b, c, values, out);
-        return Writing::Written(size);
+    if out.len() < size {
+        return Err(Cause::OutputTooShort.at(0));
     }
-    Writing::Refused(Refusal {
-        number: 21,
-        place: 0,
-    })
+    emit(n, columns, out);
+    Ok(size)
 }
 
 // Tables shorter than the counts: 1 [0]; then the refusals of the tables' file; then 21 for a short output. Output that is
 // not written stays as it was.
-pub fn write(
-    n: Counts,
-    parameters: &[u16],
-    results: &[u16],
-    inputs: &[u16],
-    kinds: &[u8],
-    a: &[u16],
-    b: &[u16],
-    c: &[u16],
-    values: &[i32],
-    out: &mut [u8],
-) -> Writing
-    ensures { Writes n (tables_of parameters.now results.now inputs.now kinds.now a.now b.now c.now values.now) out.old out.new result }
+pub fn write(n: Counts, columns: &Columns, out: &mut [u8]) -> Result<usize, Refusal>
+    ensures { Writes n (tables_in columns.now) out.old out.new result }
 {
-    tables_fit(n, parameters, results, inputs, kinds, a, b, c, values);
-    match tables_refusal(n, parameters, results, inputs, kinds, a, b, c, values) {
-        Verdict::Passed => fit(n, parameters, results, inputs, kinds, a, b, c, values, out),
-        Verdict::Refused(f) => Writing::Refused(f),
-    }
+    tables_fit(n, columns);
+    tables_refusal(n, columns)?;
+    fit(n, columns, out)
 }

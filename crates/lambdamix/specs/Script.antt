@@ -1,6 +1,10 @@
 -- Scripts as tables: paper 01, "Script file". A script is its listed types, its inputs and its nodes; which fields a kind
--- uses is one table of thirteen rows. Bytes are the matter of the crate `script`. Assumes nothing.
+-- uses is one table of thirteen rows. The steps of Figure 2 are those of the code, which the paper calls early for static and late for dynamic. Bytes are the
+-- matter of the crate `script`. Assumes nothing.
 use Rattle.std.specs.Prelude.{ℕ, ◌-◌, List, [], ◌∷◌, ℤ, pos, length, get_or}
+pub use Rattle.lambdamix.specs.declared.Step.{Step}
+pub use Rattle.lambdamix.specs.declared.Step.TheVariants.{Constant as constant, Variable as variable, Lift as lift, Function as function, Application as application, Fix as fix, Conditional as conditional, Operation as operation}
+pub use Rattle.lambdamix.specs.declared.Step.TheVariants.{DynamicFunction as dynamic_function, DynamicApplication as dynamic_application, DynamicFix as dynamic_fix, DynamicIf as dynamic_if, DynamicOperation as dynamic_operation}
 use Rattle.lambdamix.specs.declared.Use.{Use}
 use Rattle.lambdamix.specs.declared.Use.TheVariants.{Nothing, Name, Binder, Child, ParameterType, Operation}
 
@@ -38,11 +42,6 @@ blank_node = record { kind = 0; a = 0; b = 0; c = 0; value = pos 0 }
 
 unfoldable pub node_at : Script → ℕ → Node
 node_at s i = get_or s.nodes i blank_node
-
--- The steps of Figure 2. The paper says early for static and late for dynamic.
-pub data Step : Type 0 where
-  constant variable lift function application fix conditional operation : Step
-  dynamic_function dynamic_application dynamic_fix dynamic_if dynamic_operation : Step
 
 pub record Row : Type 0 where
   pub step : Step

@@ -5,6 +5,9 @@
 pub mod arithmetic;
 pub mod stops;
 
+ghost use Rattle.std.specs.Prelude.{◌≡◌};
+ghost use Rattle.lambdamix.specs.Arithmetic.{reason_of};
+
 // What a field of a node holds: nothing, a variable's name, the name that a function binds, a child's number, the
 // number of a parameter's type, or an operator. The first variant is also what a field past the table holds.
 #[derive(Clone, Copy)]
@@ -15,6 +18,24 @@ pub enum Use {
     Child,
     ParameterType,
     Operation,
+}
+
+// The steps of Figure 2, in the order of their kinds 0 to 12. The paper says early for static and late for dynamic.
+#[derive(Clone, Copy, PartialEq, Eq)]
+pub enum Step {
+    Constant,
+    Variable,
+    Lift,
+    Function,
+    Application,
+    Fix,
+    Conditional,
+    Operation,
+    DynamicFunction,
+    DynamicApplication,
+    DynamicFix,
+    DynamicIf,
+    DynamicOperation,
 }
 
 // The operators 0 to 5 of the paper, in its order: + - * / = <.
@@ -47,11 +68,22 @@ pub enum Mode {
     BareRun,
 }
 
-// What an operation gives: a number of 32 bits, or the reason for a stop.
-#[derive(Clone, Copy)]
-pub enum Outcome {
-    Value(i32),
+// Why an operation has no result of 32 bits: the exact one is above the range or below it, or the divisor is 0.
+#[derive(Clone, Copy, PartialEq, Eq)]
+pub enum ArithmeticError {
     AboveRange,
     BelowRange,
     DivisorZero,
+}
+
+impl From<ArithmeticError> for Reason {
+    ghost from_gives = { λ e r. r ≡ reason_of e };
+
+    fn from(error: ArithmeticError) -> Reason {
+        match error {
+            ArithmeticError::AboveRange => Reason::AboveRange,
+            ArithmeticError::BelowRange => Reason::BelowRange,
+            ArithmeticError::DivisorZero => Reason::DivisorZero,
+        }
+    }
 }

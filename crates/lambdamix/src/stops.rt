@@ -19,7 +19,7 @@ fn number_of(r: Reason, clash: u8) -> u8
     }
 }
 
-// In making.
+// In making. Two numberings, which differ in a clash, are no `From`.
 pub fn reason_number(r: Reason) -> u8
     ensures { result ≡ reason_number r }
 {

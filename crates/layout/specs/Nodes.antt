@@ -4,8 +4,10 @@
 use Rattle.std.specs.Prelude.{ℕ, ◌-◌, Bool, true, false, List, [], ◌∷◌, ◌++◌, ℤ, get_or}
 use Rattle.lambdamix.specs.declared.Use.{Use}
 use Rattle.lambdamix.specs.Falling.{falling, below}
-use Rattle.lambdamix.specs.Script.{Node, Step, step_of, constant, variable, lift, function, application, fix, conditional, operation}
-use Rattle.lambdamix.specs.Script.{dynamic_function, dynamic_application, dynamic_fix, dynamic_if, dynamic_operation}
+use Rattle.lambdamix.specs.Script.{Node, step_of}
+use Rattle.lambdamix.specs.declared.Step.{Step}
+use Rattle.lambdamix.specs.declared.Step.TheVariants.{Constant as constant, Variable as variable, Lift as lift, Function as function, Application as application, Fix as fix, Conditional as conditional, Operation as operation}
+use Rattle.lambdamix.specs.declared.Step.TheVariants.{DynamicFunction as dynamic_function, DynamicApplication as dynamic_application, DynamicFix as dynamic_fix, DynamicIf as dynamic_if, DynamicOperation as dynamic_operation}
 use Rattle.lambdamix.specs.Term.{applying, fixing, choosing, operator_of}
 use Rattle.lambdamix.specs.Text.{ascii, digits, decimal}
 use Rattle.lambdamix.specs.Listing.{name_text, operator_text, former_text}

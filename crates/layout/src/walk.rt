@@ -1,6 +1,7 @@
 // The listing of a script whose nodes stand in words: a walk of its tree by recursion on falling node numbers. What stands first goes by the kind; what a field
 // holds is told by the table's row of the kind that an arm names, so that the compiler folds the read. Each function is lent what remains of the output from
-// its place on, or writes from a place on into what remains, and gives the next place.
+// its place on, or writes from a place on into what remains, and gives the next place. Nodes, inputs and words travel in registers: docs/SPEED.md,
+// "What was changed", 2, 7 and 13.
 ghost use Rattle.std.specs.Prelude.{true, false, ◌++◌, [], ◌∷◌};
 ghost use Rattle.lambdamix.specs.Term.{operator_of};
 ghost use Rattle.lambdamix.specs.Listing.{operator_text};
@@ -9,13 +10,13 @@ ghost use Rattle.text.specs.Places.{Placed};
 ghost use Rattle.layout.specs.Nodes.{field_text, fields_text, words_text, child_text, whole_text};
 
 use crate::words::{name_at, put_sign};
-use lambdamix::Use;
-use script::kinds::row_of;
+use lambdamix::{Step, Use};
+use script::kinds::{self, step_row};
 use script::place::root;
 use script::word::{field_a, field_b, field_c, kind, node_word, value};
 use script::{Counts, Name, NodeNumber, Row};
 use text::decimals::decimal_at;
-use text::parts::{further, least, letter_at, text_at};
+use text::parts::{letter_at, text_at};
 
 // The text of node i.
 #[cycle(walk)]
@@ -24,19 +25,65 @@ fn node(nodes: &&[u64], inputs: u16, i: NodeNumber, out: &mut [u8]) -> usize
 {
     let w = node_word(*nodes, i);
     match kind(w) {
-        0 => decimal_at(out, 0, value(w)),
-        1 => bare(nodes, inputs, i, w, row_of(1), out),
-        2 => bare(nodes, inputs, i, w, row_of(2), out),
-        3 => worded(nodes, inputs, i, w, row_of(3), b"(lam", out),
-        4 => worded(nodes, inputs, i, w, row_of(4), b"(app", out),
-        5 => worded(nodes, inputs, i, w, row_of(5), b"(fix", out),
-        6 => worded(nodes, inputs, i, w, row_of(6), b"(if", out),
-        7 => operation(nodes, inputs, i, w, row_of(7), out),
-        8 => worded(nodes, inputs, i, w, row_of(8), b"(lam", out),
-        9 => worded(nodes, inputs, i, w, row_of(9), b"(app", out),
-        10 => worded(nodes, inputs, i, w, row_of(10), b"(fix", out),
-        11 => worded(nodes, inputs, i, w, row_of(11), b"(if", out),
-        12 => operation(nodes, inputs, i, w, row_of(12), out),
+        kinds::VARIABLE => bare(nodes, inputs, i, w, step_row(Step::Variable), out),
+        kinds::LIFT => bare(nodes, inputs, i, w, step_row(Step::Lift), out),
+        kinds::FUNCTION => worded(nodes, inputs, i, w, step_row(Step::Function), b"(lam", out),
+        kinds::APPLICATION => worded(
+            nodes,
+            inputs,
+            i,
+            w,
+            step_row(Step::Application),
+            b"(app",
+            out,
+        ),
+        kinds::FIX => worded(nodes, inputs, i, w, step_row(Step::Fix), b"(fix", out),
+        kinds::CONDITIONAL => worded(
+            nodes,
+            inputs,
+            i,
+            w,
+            step_row(Step::Conditional),
+            b"(if",
+            out,
+        ),
+        kinds::OPERATION => operation(nodes, inputs, i, w, step_row(Step::Operation), out),
+        kinds::DYNAMIC_FUNCTION => worded(
+            nodes,
+            inputs,
+            i,
+            w,
+            step_row(Step::DynamicFunction),
+            b"(lam",
+            out,
+        ),
+        kinds::DYNAMIC_APPLICATION => worded(
+            nodes,
+            inputs,
+            i,
+            w,
+            step_row(Step::DynamicApplication),
+            b"(app",
+            out,
+        ),
+        kinds::DYNAMIC_FIX => worded(
+            nodes,
+            inputs,
+            i,
+            w,
+            step_row(Step::DynamicFix),
+            b"(fix",
+            out,
+        ),
+        kinds::DYNAMIC_IF => worded(nodes, inputs, i, w, step_row(Step::DynamicIf), b"(if", out),
+        kinds::DYNAMIC_OPERATION => operation(
+            nodes,
+            inputs,
+            i,
+            w,
+            step_row(Step::DynamicOperation),
+            out,
+        ),
         _ => decimal_at(out, 0, value(w)),
     }
 }
@@ -46,15 +93,11 @@ fn node(nodes: &&[u64], inputs: u16, i: NodeNumber, out: &mut [u8]) -> usize
 fn bare(nodes: &&[u64], inputs: u16, i: NodeNumber, w: u64, row: Row, out: &mut [u8]) -> usize
     ensures { Placed (field_text inputs (child_text inputs nodes.now.now i.0) false row.0 (word_a w)) 0 out.old out.new result }
 {
-    let u = row.0;
     let x = field_a(w);
-    match u {
-        Use::Nothing => 0,
-        Use::Name => name_at(out, 0, inputs, Name(x)),
-        Use::Binder => name_at(out, 0, inputs, Name(x)),
+    match row.0 {
+        Use::Name | Use::Binder => name_at(out, 0, inputs, Name(x)),
         Use::Child => child_at(nodes, inputs, i, NodeNumber(x), out, 0),
-        Use::ParameterType => 0,
-        Use::Operation => 0,
+        _ => 0,
     }
 }
 
@@ -97,16 +140,14 @@ fn group(
 ) -> usize
     ensures { Placed (fields_text inputs (child_text inputs nodes.now.now i.0) true row (word_a w) (word_b w) (word_c w) ++ (41 ∷ [])) at out.old out.new result }
 {
-    let u = row.0;
-    let v = row.1;
-    let t = row.2;
-    let one = spaced_at(nodes, inputs, i, u, field_a(w), out, at);
-    let two = spaced_at(nodes, inputs, i, v, field_b(w), out, one);
-    let three = spaced_at(nodes, inputs, i, t, field_c(w), out, two);
+    let one = spaced_at(nodes, inputs, i, row.0, field_a(w), out, at);
+    let two = spaced_at(nodes, inputs, i, row.1, field_b(w), out, one);
+    let three = spaced_at(nodes, inputs, i, row.2, field_c(w), out, two);
     letter_at(out, three, b')')
 }
 
-// A field of node i by its use, behind a space; gives the next place.
+// A field of node i by its use, behind a space; gives the next place. Names and binders have an arm each: with one for both the compiler leaves `group` out of
+// the arms of `node`, and the listing of a wide tree takes 9 per cent more instructions than docs/SPEED.md tells.
 #[cycle(walk)]
 fn spaced_at(
     nodes: &&[u64],
@@ -120,7 +161,6 @@ fn spaced_at(
     ensures { Placed (field_text inputs (child_text inputs nodes.now.now i.0) true u f) at out.old out.new result }
 {
     match u {
-        Use::Nothing => at,
         Use::Name => {
             let next = letter_at(out, at, b' ');
             name_at(out, next, inputs, Name(f))
@@ -133,12 +173,12 @@ fn spaced_at(
             let next = letter_at(out, at, b' ');
             child_at(nodes, inputs, i, NodeNumber(f), out, next)
         }
-        Use::ParameterType => at,
-        Use::Operation => at,
+        _ => at,
     }
 }
 
-// A child of node i, whose number is below, in what remains from a place on; gives the next place.
+// A child of node i, whose number is below, in what remains from a place on; gives the next place. No call of `written_at`: that wants the promise of a front,
+// and a walk's text may be longer than any count.
 #[cycle(walk)]
 fn child_at(
     nodes: &&[u64],
@@ -151,9 +191,9 @@ fn child_at(
     ensures { Placed (child_text inputs nodes.now.now i.0 m.0) at out.old out.new result }
 {
     if m.0 < i.0 {
-        let from = least(at, out.len());
+        let from = at.min(out.len());
         let n = node(nodes, inputs, m, &mut out[from..]);
-        return further(at, n);
+        return at.saturating_add(n);
     }
     letter_at(out, at, b'0')
 }

@@ -5,20 +5,17 @@ ghost use Rattle.lambdamix.specs.Listing.{name_text, operator_text};
 ghost use Rattle.text.specs.Places.{Put, Placed};
 
 use script::Name;
+use script::column::at;
 use text::decimals::put_prefixed;
-use text::parts::{further, least, letter_at, put_letter};
+use text::parts::{letter_at, put_letter, written_at};
 
-const SIGNS: [u8; 6] = [b'+', b'-', b'*', b'/', b'=', b'<'];
+const SIGNS: [u8; 6] = *b"+-*/=<";
 
 // The sign of an operator; that of the first past the last.
 fn sign(operator: u16) -> u8
     ensures { operator_text (operator_of operator) ≡ result ∷ [] }
 {
-    let o = operator as usize;
-    if 6 <= o {
-        return b'+';
-    }
-    SIGNS[o]
+    at(&SIGNS, operator as usize, b'+')
 }
 
 // A bracket and the sign of an operator.
@@ -33,20 +30,13 @@ pub(crate) fn put_sign(out: &mut [u8], operator: u16) -> usize
 fn put_name(out: &mut [u8], inputs: u16, x: Name) -> usize
     ensures { Put (name_text inputs x.0) out.old out.new result }
 {
-    let n = x.0;
-    if n < inputs {
-        let input = put_prefixed(out, b'i', n as u32);
-        return input.length;
-    }
-    let bound = put_prefixed(out, b'v', n as u32);
-    bound.length
+    let letter = if x.0 < inputs { b'i' } else { b'v' };
+    put_prefixed(out, letter, x.0 as u32).length
 }
 
 // A name in what remains from a place on; gives the next place.
 pub(crate) fn name_at(out: &mut [u8], at: usize, inputs: u16, x: Name) -> usize
     ensures { Placed (name_text inputs x.0) at out.old out.new result }
 {
-    let from = least(at, out.len());
-    let n = put_name(&mut out[from..], inputs, x);
-    further(at, n)
+    written_at(out, at, |rest| put_name(rest, inputs, x))
 }

@@ -17,8 +17,7 @@ use Rattle.cells.specs.RunWords.{state_in}
 use Rattle.machine.specs.Machine.{ended, visit, run}
 use Rattle.machine.specs.Start.{started_with, root_out}
 use Rattle.erasure.specs.Erasing.{target, erased_to}
-use Rattle.plainrun.specs.declared.Reply as Told
-use Rattle.plainrun.specs.Running.{Reply, ran, unfinished, replied}
+use Rattle.plainrun.specs.Running.{Told, Reply, ran, unfinished, replied}
 use Rattle.plainrun.specs.Erased.{after_answer, plain_start, plain_out, RunsNodes}
 
 -- the root i, the fuel, and the state after
@@ -48,14 +47,14 @@ module _ (i fuel : ℕ) (s : State) (w : ℕ) where
 
 -- all nodes were erased for a run
 pub erased_runs :
-    {n : Counts} {es : List ℕ} {zs : List ℤ} {fuel k : ℕ} {heap : List ℕ} {r : Told.Reply} (ws : List ℕ) →
+    {n : Counts} {es : List ℕ} {zs : List ℤ} {fuel k : ℕ} {heap : List ℕ} {r : Told} (ws : List ℕ) →
     k ≡ n.nodes → es ≡ erased_to k ws → RunsNodes n es zs fuel heap r → RunsNodes n (erased_to n.nodes ws) zs fuel heap r
 erased_runs {n} {es} {zs} {fuel} {heap} {r} ws e f h =
     subst (λ j. RunsNodes n (erased_to j ws) zs fuel heap r) e (subst (λ xs. RunsNodes n xs zs fuel heap r) f h)
 
 -- The run: from the state in s₀ that the start gives, the visit of what stands for the root gives the word q and the state in st, whose answer is told.
 pub run_told :
-    {n : Counts} {ws : List ℕ} {zs : List ℤ} {fuel root top d e : ℕ} {heap : List ℕ} {after : Stores} {x k : List ℕ} {r : Told.Reply} (q s₀ st : ℕ) →
+    {n : Counts} {ws : List ℕ} {zs : List ℤ} {fuel root top d e : ℕ} {heap : List ℕ} {after : Stores} {x k : List ℕ} {r : Told} (q s₀ st : ℕ) →
     root ≡ n.nodes - 1 → top ≡ target ws root → d ≡ max_depth →
     started_with (state_in s₀) x k ≡ plain_start n zs fuel heap → e ≡ (state_in s₀).heap →
     ended (answer_in q (state_in st)) after ≡ run (columns_in ws) d (visit e top) (state_in s₀) (stores x k) →

@@ -3,12 +3,16 @@
 
 pub mod run;
 
-use script::Refusal;
-
-// The reply of a plain run, with its steps: the number that it gives, that it gives a function, or number and place where it does not finish.
+// What a plain run gives: no `Option`, since a function is a value and not the lack of one.
 #[derive(Clone, Copy)]
-pub enum Reply {
-    Number(i32, u16),
-    Function(u16),
-    Unfinished(Refusal, u16),
+pub enum Value {
+    Number(i32),
+    Function,
+}
+
+// The reply of a plain run that finishes: what it gives, and its steps. Any other replies `Unfinished` of the crate `script`.
+#[derive(Clone, Copy)]
+pub struct Finished {
+    pub value: Value,
+    pub steps: u16,
 }

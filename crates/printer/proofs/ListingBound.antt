@@ -20,7 +20,7 @@ use Rattle.lambdamix.specs.Text.{ascii, digits}
 use Rattle.lambdamix.specs.Listing.{term_text, listing}
 use Rattle.lambdamix.proofs.Falling.{below_at}
 use Rattle.lambdamix.proofs.Tests.{or_left, or_right}
-use Rattle.script.specs.declared.Writing.{Writing}
+use Rattle.script.specs.Answers.{Writing}
 use Rattle.script.specs.Widths.{LentTables}
 use Rattle.script.specs.Replies.{replying, writing_reply}
 use Rattle.file.specs.Encodable.{Encodable}

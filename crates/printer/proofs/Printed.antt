@@ -8,13 +8,13 @@ use native.Mathlib.Omega.{arith}
 use lib.ListN.{length, get_or}
 use lib.Dec.{ltb}
 use borrow.Author.Tests.{ltb-true}
+use Rattle.std.specs.Prelude.{Ok, Err}
 use Rattle.lambdamix.specs.Script.{Script, Node, node_count, input_count, root}
 use Rattle.lambdamix.specs.Text.{ascii}
 use Rattle.lambdamix.specs.Listing.{listing}
 use Rattle.lambdamix.proofs.KindCases.{kind_of}
 use Rattle.lambdamix.proofs.Tests.{and_both}
 use Rattle.script.specs.declared.Counts.{Counts}
-use Rattle.script.specs.declared.Writing.TheVariants.{Written, Refused}
 use Rattle.script.specs.Refusals.{node_fits}
 use Rattle.script.specs.Verdicts.{Fitted}
 use Rattle.script.specs.Tables.{Tables, row_node, tables_script, tables_refusal, over}
@@ -62,18 +62,18 @@ untouched (b ∷ y) x h = absurd (omega arith)
 
 -- Whether the walk's count is at most the output's length decides both.
 module _ {text x y : List ℕ} {k : ℕ} (short : length x < most) (same : y ≡ x) (counted : k ≡ min (0 + length text) most) where
-  puts_whole : {z : List ℕ} {e : ℕ} → k ≤ length y → Placed text 0 y z e → Fitted text x z (Written k)
+  puts_whole : {z : List ℕ} {e : ℕ} → k ≤ length y → Placed text 0 y z e → Fitted text x z (Ok k)
   puts_whole h p =
       text_fits (omega (arith, ap length same)) (omega (arith, ap length same))
       (p.stands (omega (arith, ap length same)) (omega (arith, ap length same)) ∙ ap (over text) same)
 
-  puts_nothing : length y < k → Fitted text x y (Refused (record { number = 21; place = 0 }))
+  puts_nothing : length y < k → Fitted text x y (Err (record { number = 21; place = 0 }))
   puts_nothing h = text_short refl (omega (arith, ap length same)) same
 
 -- the same of a walk of the whole output, as grind reads it
 pub lists_written :
     (n : Counts) (ws x z : List ℕ) (k : ℕ) → length x < most → k ≡ min (0 + length (whole_text n.inputs n.nodes ws)) most → k ≤ length x →
-    z ≡ over (whole_text n.inputs n.nodes ws) x → Lists n ws x z (Written k)
+    z ≡ over (whole_text n.inputs n.nodes ws) x → Lists n ws x z (Ok k)
 unfolding tables_text
 lists_written n ws x z k short counted h p =
     record { lists = λ t e q. rw (listing_text _ _ _ t ws e q) (text_fits (omega arith) h p) }
@@ -83,14 +83,14 @@ lists_written n ws x z k short counted h p =
 module _ {n : Counts} {ws : List ℕ} {x y w : List ℕ} {k : ℕ} (short : length x < most) (nothing : length y ≡ 0)
     (first : Placed (whole_text n.inputs n.nodes ws) 0 w y k) where
   pub lists_whole :
-      {z : List ℕ} {e : ℕ} → k ≤ length (y ++ x) → Placed (whole_text n.inputs n.nodes ws) 0 (y ++ x) z e → Lists n ws x z (Written k)
+      {z : List ℕ} {e : ℕ} → k ≤ length (y ++ x) → Placed (whole_text n.inputs n.nodes ws) 0 (y ++ x) z e → Lists n ws x z (Ok k)
   unfolding tables_text
   lists_whole h p = record {
     lists = λ t e q.
         rw (listing_text _ _ _ t ws e q) (puts_whole short (untouched y x nothing) first.counted h p);
   }
 
-  pub lists_nothing : length (y ++ x) < k → Lists n ws x (y ++ x) (Refused (record { number = 21; place = 0 }))
+  pub lists_nothing : length (y ++ x) < k → Lists n ws x (y ++ x) (Err (record { number = 21; place = 0 }))
   unfolding tables_text
   lists_nothing h = record {
     lists = λ t e q.

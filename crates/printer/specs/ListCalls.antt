@@ -4,7 +4,7 @@ use Rattle.std.proofs.Math.Option.{Option}
 use Rattle.lambdamix.specs.Refusal.{Refusal, or_else}
 use Rattle.lambdamix.specs.Listing as Text
 use Rattle.script.specs.declared.Counts.{Counts}
-use Rattle.script.specs.declared.Writing.{Writing}
+use Rattle.script.specs.Answers.{Writing}
 use Rattle.script.specs.Tables.{Tables, tables_script, tables_refusal, room_refusal}
 use Rattle.script.specs.Widths.{LentTables}
 use Rattle.script.specs.Replies.{Reply, Form, telling, writing_reply, WritesTextAs}

@@ -2,7 +2,7 @@
 use Rattle.std.specs.Prelude.{ℕ, ◌≡◌, List}
 use Rattle.std.proofs.Math.Option.{none}
 use Rattle.script.specs.declared.Counts.{Counts}
-use Rattle.script.specs.declared.Writing.{Writing}
+use Rattle.script.specs.Answers.{Writing}
 use Rattle.script.specs.Tables.{Tables, row_node, tables_refusal}
 use Rattle.script.specs.Replies.{WritesText}
 use Rattle.script.specs.Verdicts.{Fitted}

@@ -1,7 +1,7 @@
 -- Tables that were filled from a file hold the file's script, and a script's tables hold the script; they stay long enough; which tables can be
 -- filled. Assumes nothing.
-use Prim.Native.Nat.{ℕ, ◌+◌, ◌*◌, ◌<◌}
-use mathlib.Core.Path.{◌≡◌, refl, sym, ap, ◌∙◌}
+use Prim.Native.Nat.{ℕ, ◌+◌, ◌<◌}
+use mathlib.Core.Path.{◌≡◌, sym, ap, ◌∙◌}
 use mathlib.Core.Bool.{true}
 use mathlib.Core.List.{List, ◌++◌, map}
 use native.Mathlib.Omega.{arith}
@@ -18,8 +18,8 @@ use Rattle.script.specs.File.{numbered, type_offset, input_offset, node_offset, 
 use Rattle.script.specs.Tables.{Tables, row_type, row_input, row_node, tables_script, long_enough, over, filled, tables_of}
 use Rattle.script.specs.Columns.{enough}
 use Rattle.script.specs.Replies.{head_counts}
-use Rattle.reading.specs.Heads.{script_by, FillFits, no_counts}
-use Rattle.script.proofs.Numbered.{length_numbered, numbered_whole, numbered_same, map_numbered}
+use Rattle.reading.specs.Heads.{script_by, FillFits}
+use Rattle.script.proofs.Numbered.{length_numbered, numbered_whole, map_numbered}
 
 -- ---- filled tables hold the script that filled them
 
@@ -105,58 +105,40 @@ filled_long t i n s x e =
 
 -- ---- eight columns, each filled from a file, are the tables filled with its script
 
-column_filled : {A B : Type 0} (h : A → B) (f : ℕ → A) (g : ℕ → B) (n : ℕ) (old : List B) {now : List B}
-    → ((j : ℕ) → g j ≡ h (f j)) → now ≡ over (numbered g 0 n) old → now ≡ over (map h (numbered f 0 n)) old
-column_filled {B = B} h f g n old k p =
-    p ∙ ap (λ (xs : List B). over xs old) (numbered_same g (λ i. h (f i)) 0 n (λ i l. k i) ∙ sym (map_numbered h f 0 n))
-
-inputs_filled : (f g : ℕ → ℕ) (n : ℕ) (old : List ℕ) {now : List ℕ}
-    → ((j : ℕ) → g j ≡ f j) → now ≡ over (numbered g 0 n) old → now ≡ over (numbered f 0 n) old
-inputs_filled f g n old k p = p ∙ ap (λ (xs : List ℕ). over xs old) (numbered_same g f 0 n (λ i l. k i))
-
-type_place : (f j c : ℕ) → f ≡ type_offset 0 → f + 6 * j + c ≡ type_offset j + c
-unfolding type_offset
-type_place f j c p = omega arith
-
-input_place : (t f j : ℕ) → f ≡ input_offset t 0 → f + 4 * j + 2 ≡ input_offset t j + 2
-unfolding input_offset
-input_place t f j p = omega arith
-
-node_place : (t i f j c : ℕ) → f ≡ node_offset t i 0 → f + 13 * j + c ≡ node_offset t i j + c
-unfolding node_offset
-node_place t i f j c p = omega arith
+column_filled : {A B : Type 0} (h : A → B) (f : ℕ → A) (n : ℕ) (old : List B) {now : List B}
+    → now ≡ over (numbered (λ j. h (f j)) 0 n) old → now ≡ over (map h (numbered f 0 n)) old
+column_filled {B = B} h f n old p = p ∙ ap (λ (xs : List B). over xs old) (sym (map_numbered h f 0 n))
 
 module _ (bs : List ℕ) (n : Counts) (x : Tables) where
-  pub tables_filled : (f g h : ℕ) → f ≡ type_offset 0 → g ≡ input_offset n.types 0 → h ≡ node_offset n.types n.inputs 0
-      → {ps rs is ks xs ys zs : List ℕ} {vs : List ℤ}
-      → ps ≡ over (numbered (λ j. number16 bs (f + 6 * j + 2)) 0 n.types) x.parameters
-      → rs ≡ over (numbered (λ j. number16 bs (f + 6 * j + 4)) 0 n.types) x.results
-      → is ≡ over (numbered (λ j. number16 bs (g + 4 * j + 2)) 0 n.inputs) x.inputs
-      → ks ≡ over (numbered (λ j. byte_at bs (h + 13 * j + 2)) 0 n.nodes) x.kinds
-      → xs ≡ over (numbered (λ j. number16 bs (h + 13 * j + 3)) 0 n.nodes) x.a
-      → ys ≡ over (numbered (λ j. number16 bs (h + 13 * j + 5)) 0 n.nodes) x.b
-      → zs ≡ over (numbered (λ j. number16 bs (h + 13 * j + 7)) 0 n.nodes) x.c
-      → vs ≡ over (numbered (λ j. signed32 (number32 bs (h + 13 * j + 9))) 0 n.nodes) x.values
+  pub tables_filled : {ps rs is ks xs ys zs : List ℕ} {vs : List ℤ}
+      → ps ≡ over (numbered (λ j. number16 bs (type_offset j + 2)) 0 n.types) x.parameters
+      → rs ≡ over (numbered (λ j. number16 bs (type_offset j + 4)) 0 n.types) x.results
+      → is ≡ over (numbered (λ k. number16 bs (input_offset n.types k + 2)) 0 n.inputs) x.inputs
+      → ks ≡ over (numbered (λ i. byte_at bs (node_offset n.types n.inputs i + 2)) 0 n.nodes) x.kinds
+      → xs ≡ over (numbered (λ i. number16 bs (node_offset n.types n.inputs i + 3)) 0 n.nodes) x.a
+      → ys ≡ over (numbered (λ i. number16 bs (node_offset n.types n.inputs i + 5)) 0 n.nodes) x.b
+      → zs ≡ over (numbered (λ i. number16 bs (node_offset n.types n.inputs i + 7)) 0 n.nodes) x.c
+      → vs ≡ over (numbered (λ i. signed32 (number32 bs (node_offset n.types n.inputs i + 9))) 0 n.nodes) x.values
       → tables_of ps rs is ks xs ys zs vs ≡ filled (script_by n bs) x
   unfolding filled script_by type_from input_from node_from
-  tables_filled f g h u v w p q r s a b c d =
+  tables_filled p q r s a b c d =
       let types : ℕ → FunctionType = λ j. type_from bs (type_offset j) in
-      let nodes : ℕ → Node = λ j. node_from bs (node_offset n.types n.inputs j) in
+      let nodes : ℕ → Node = λ i. node_from bs (node_offset n.types n.inputs i) in
       λ i.
       tables_of
-      (column_filled (λ (t : FunctionType). t.parameter) types _ _ x.parameters (λ j. ap (number16 bs) (type_place f j 2 u)) p i)
-      (column_filled (λ (t : FunctionType). t.result) types _ _ x.results (λ j. ap (number16 bs) (type_place f j 4 u)) q i)
-      (inputs_filled (λ j. input_from bs (input_offset n.types j)) _ _ x.inputs (λ j. ap (number16 bs) (input_place n.types g j v)) r i)
-      (column_filled (λ (y : Node). y.kind) nodes _ _ x.kinds (λ j. ap (byte_at bs) (node_place n.types n.inputs h j 2 w)) s i)
-      (column_filled (λ (y : Node). y.a) nodes _ _ x.a (λ j. ap (number16 bs) (node_place n.types n.inputs h j 3 w)) a i)
-      (column_filled (λ (y : Node). y.b) nodes _ _ x.b (λ j. ap (number16 bs) (node_place n.types n.inputs h j 5 w)) b i)
-      (column_filled (λ (y : Node). y.c) nodes _ _ x.c (λ j. ap (number16 bs) (node_place n.types n.inputs h j 7 w)) c i)
-      (column_filled (λ (y : Node). y.value) nodes _ _ x.values (λ j. ap (λ (k : ℕ). signed32 (number32 bs k)) (node_place n.types n.inputs h j 9 w)) d i)
+      (column_filled (λ (t : FunctionType). t.parameter) types n.types x.parameters p i)
+      (column_filled (λ (t : FunctionType). t.result) types n.types x.results q i)
+      (r i)
+      (column_filled (λ (y : Node). y.kind) nodes n.nodes x.kinds s i)
+      (column_filled (λ (y : Node). y.a) nodes n.nodes x.a a i)
+      (column_filled (λ (y : Node). y.b) nodes n.nodes x.b b i)
+      (column_filled (λ (y : Node). y.c) nodes n.nodes x.c c i)
+      (column_filled (λ (y : Node). y.value) nodes n.nodes x.values d i)
 
 -- ---- which tables can be filled
 
 module _ (n : Counts) (x : Tables) where
-  -- those that are long enough for the counts,
+  -- those that are long enough for the counts
   pub fill_fits :
       enough n.types n.inputs n.nodes (length x.parameters) (length x.results) (length x.inputs) (length x.kinds)
       (length x.a) (length x.b) (length x.c) (length x.values)
@@ -182,18 +164,9 @@ module _ (n : Counts) (x : Tables) where
         values = leb-true _ _ c.1;
       }
 
--- and all with nothing.
-pub none_fits : (x : Tables) → FillFits no_counts x
-none_fits x = omega arith
-
 -- ---- with what
 
 -- the head's counts give the file's script
 pub by_head : (bs : List ℕ) {n : Counts} → n ≡ head_counts bs → script_by n bs ≡ script_in bs
 unfolding head_counts script_by script_in
 by_head bs e = ap (λ (m : Counts). script_by m bs) e
-
--- nothing leaves the tables as they were
-pub by_none : (bs : List ℕ) (x : Tables) → filled (script_by no_counts bs) x ≡ x
-unfolding filled script_by numbered over
-by_none bs x = refl

@@ -5,7 +5,7 @@ use mathlib.Core.List.{List, [], ◌∷◌, ◌++◌}
 use native.Mathlib.Nat.{zero-add}
 use native.Mathlib.Numerals.{add-one}
 use native.Mathlib.Omega.{arith}
-use lib.ListN.{length, get_or, drop, set, length-append, length-drop}
+use lib.ListN.{length, get_or, drop, set}
 use lib.Seq.{drop-cons, set_at, append_snoc}
 use Rattle.script.specs.File.{numbered}
 use Rattle.script.specs.Tables.{over}
@@ -22,29 +22,14 @@ module _ {A : Type 0} (f : ℕ → A) where
       (set_at (numbered f 0 j) (get_or old j (f j)) (drop (suc j) old) (f j) j (length_numbered f 0 j)
       ∙ sym (ap (λ (k : ℕ). numbered f 0 j ++ (f k ∷ []) ++ drop (suc j) old) (zero-add j) ∙ append_snoc (numbered f 0 j) (f j) (drop (suc j) old)))
 
-  -- the first j of n places are filled
-  pub record Filling (old : List A) (j n : ℕ) (now : List A) : Type 0 where
-    pub within : j ≤ n
-    pub enough : n ≤ length old
-    pub filled : now ≡ over (numbered f 0 j) old
-
-  pub fill_begins : (old : List A) (n : ℕ) → n ≤ length old → Filling old 0 n old
+  -- nothing is filled at first; the place that comes next is filled behind those before it; and at the end as many are as were to be
+  pub fill_begins : (old : List A) → old ≡ over (numbered f 0 0) old
   unfolding over numbered
-  fill_begins old n h = record { within = omega arith; enough = h; filled = refl }
+  fill_begins old = refl
 
-  pub fill_goes_on : {old : List A} {j n : ℕ} {now next : List A} {v : A}
-      → Filling old j n now → j < n → v ≡ f j → next ≡ set now j v → Filling old (j + 1) n next
-  fill_goes_on {old} {j} s h e g =
-      record {
-        within = omega arith;
-        enough = s.enough;
-        filled = g ∙ rw (e, s.filled, add-one j) (over_more j old (omega (arith, s.enough)));
-      }
+  pub fill_goes_on : (old : List A) {j : ℕ} {now : List A} {v : A}
+      → now ≡ over (numbered f 0 j) old → j < length old → v ≡ f j → set now j v ≡ over (numbered f 0 (j + 1)) old
+  fill_goes_on old {j} s h e = rw (e, s, add-one j) (over_more j old h)
 
-  pub fill_ends : {old : List A} {j n : ℕ} {now : List A} → Filling old j n now → n ≤ j → now ≡ over (numbered f 0 n) old
-  fill_ends {old} {j} {n} s h = s.filled ∙ ap (λ (k : ℕ). over (numbered f 0 k) old) (omega (arith, s.within))
-
-  pub fill_length : {old : List A} {j n : ℕ} {now : List A} → Filling old j n now → length now ≡ length old
-  fill_length {old} {j} s =
-      ap length (s.filled ∙ over_is j old)
-      ∙ simp (length-append, length_numbered, length-drop) (omega (arith, s.within, s.enough))
+  pub fill_ends : (old : List A) {j n : ℕ} {now : List A} → now ≡ over (numbered f 0 j) old → j ≤ n → n ≤ j → now ≡ over (numbered f 0 n) old
+  fill_ends old s l h = s ∙ ap (λ (k : ℕ). over (numbered f 0 k) old) (omega arith)

@@ -1,4 +1,5 @@
 -- The refusals of a file from those of its parts, and the reader's reply and tables. Assumes nothing.
+use Rattle.std.specs.Prelude.{Err, Ok}
 use Prim.Native.Nat.{ℕ, ◌<◌, ◌≤◌}
 use mathlib.Core.Path.{◌≡◌, refl, sym, ap, ◌∙◌}
 use mathlib.Core.Bool.{Bool, true, false}
@@ -6,7 +7,8 @@ use mathlib.Core.List.{List}
 use mathlib.Core.Option.{Option, none, some}
 use mathlib.Core.Logic.{⊎_elim}
 use native.Mathlib.Omega.{arith}
-use lib.ListN.{length}
+use lib.IntN.{ℤ, pos}
+use lib.ListN.{length, length-replicate}
 use lib.Dec.{leb, ltb}
 use borrow.Author.Tests.{leb-true, leb-false, le-leb, lt-ltb, le-ltb}
 use Rattle.lambdamix.specs.Refusal as Lambdamix
@@ -17,20 +19,20 @@ use Rattle.lambdamix.specs.Structure.{use_refusal, height_refusal, scope_refusal
 use Rattle.lambdamix.proofs.Tests.{holds_or_fails}
 use Rattle.script.specs.declared.Counts.{Counts}
 use Rattle.script.specs.declared.Refusal.{Refusal}
-use Rattle.script.specs.declared.Verdict.{Verdict}
-use Rattle.script.specs.declared.Reading.{Reading}
+use Rattle.script.specs.Answers.{Verdict}
+use Rattle.script.specs.Answers.{Reading}
 use Rattle.script.specs.File.{head_types, head_inputs, head_nodes, script_in}
-use Rattle.script.specs.Refusals.{counts_right, content_of, content_refusal, script_refusal, mark_refusal, earlier, earlier_by, body_refusal, file_refusal, head_refusal}
-use Rattle.script.specs.Tables.{Tables, tables_script, filled, long_enough, tables_refusal, read_refusal, read_tables}
-use Rattle.script.specs.Replies.{head_counts, reading_reply, Reads}
+use Rattle.script.specs.Refusals.{counts_right, content_of, content_refusal, script_refusal, mark_refusal, earlier, earlier_by, body_refusal, head_refusal}
+use Rattle.script.specs.Tables.{Tables, tables_script, blank_tables, filled, long_enough, tables_refusal, read_refusal, read_tables}
+use Rattle.script.specs.Replies.{head_counts, replying, reading_reply, Reads}
 use Rattle.script.specs.Verdicts.{refusal_of, reading}
 use Rattle.script.specs.Columns.{enough}
 use Rattle.script.proofs.ReplyLaws.{reading_reply_lem}
 use Rattle.script.proofs.Numbered.{length_numbered}
 use Rattle.script.proofs.RefusalLaws.{neither, not_refused, pass_over, either_some, node_number, record_number}
 use Rattle.script.proofs.Sound.{in_limits}
-use Rattle.reading.specs.Heads.{marks_first, script_by, FillFits, read_reply, counts_read}
-use Rattle.reading.proofs.FillLaws.{file_held, fill_fits, none_fits, by_head, by_none}
+use Rattle.reading.specs.Heads.{marks_first, script_by, FillFits, read_reply}
+use Rattle.reading.proofs.FillLaws.{file_held, filled_long, fill_fits, by_head}
 
 -- ---- the columns of the check
 
@@ -39,14 +41,18 @@ pub counts_here : (bs : List ℕ) {n : Counts} → n ≡ head_counts bs → coun
 unfolding head_counts
 counts_here bs e h = ap (λ (m : Counts). counts_right m.types m.inputs m.nodes) e ∙ h
 
--- columns as long as the limits hold every file whose counts are right
-pub own_fits : (bs : List ℕ) {n : Counts} (x : Tables) → n ≡ head_counts bs → counts_right (head_types bs) (head_inputs bs) (head_nodes bs) ≡ true
-    → length x.parameters ≡ max_types → length x.results ≡ max_types → length x.inputs ≡ max_inputs
-    → length x.kinds ≡ max_nodes → length x.a ≡ max_nodes → length x.b ≡ max_nodes → length x.c ≡ max_nodes → length x.values ≡ max_nodes
-    → FillFits n x
-own_fits bs {n} x e h p r i k a b c v =
+-- columns of zeros, as long as the limits, hold every file whose counts are right
+pub blank_fits : (bs : List ℕ) {n : Counts} {x : Tables} → n ≡ head_counts bs → counts_right (head_types bs) (head_inputs bs) (head_nodes bs) ≡ true
+    → x ≡ blank_tables → FillFits n x
+unfolding blank_tables
+blank_fits bs {n} e h b =
     let l = in_limits n.types n.inputs n.nodes (counts_here bs e h) in
-    record {
+    let types = length-replicate {A = ℕ} max_types 0 in
+    let inputs = length-replicate {A = ℕ} max_inputs 0 in
+    let nodes = length-replicate {A = ℕ} max_nodes 0 in
+    let values = length-replicate {A = ℤ} max_nodes (pos 0) in
+    rw b
+    (record {
       parameters = omega (arith, l.types);
       results = omega (arith, l.types);
       inputs = omega (arith, l.inputs);
@@ -55,9 +61,9 @@ own_fits bs {n} x e h p r i k a b c v =
       b = omega (arith, l.nodes);
       c = omega (arith, l.nodes);
       values = omega (arith, l.nodes);
-    }
+    })
 
--- and are long enough for its counts
+-- and what can be filled is long enough
 fits_long : (n : Counts) (x : Tables) → FillFits n x → long_enough n.types n.inputs n.nodes x ≡ true
 unfolding long_enough enough
 fits_long n x f =
@@ -71,6 +77,13 @@ fits_long n x f =
       le-leb _ _ f.c,
       le-leb _ _ f.values,
     )
+
+-- and so it is when it is filled
+pub filled_fits : (bs : List ℕ) (n : Counts) {x : Tables} (old : Tables) → x ≡ filled (script_by n bs) old → FillFits n old → FillFits n x
+unfolding long_enough
+filled_fits bs n {x} old held fits =
+    fill_fits n x
+    (ap (long_enough n.types n.inputs n.nodes) held ∙ filled_long n.types n.inputs n.nodes (script_by n bs) old (fits_long n old fits))
 
 -- ---- the body
 
@@ -145,53 +158,69 @@ head_passes bs e = not_refused _ 3 0 (neither _ _ (neither _ _ (neither _ _ e).1
 
 -- ---- the reader
 
--- whether columns of these lengths hold as many records as the head counts
+-- whether tables are long enough for as many records as the head counts
 abbrev pub long_for : List ℕ → Tables → Bool
-long_for bs x =
-    enough (head_types bs) (head_inputs bs) (head_nodes bs) (length x.parameters) (length x.results) (length x.inputs) (length x.kinds)
-    (length x.a) (length x.b) (length x.c) (length x.values)
+long_for bs x = long_enough (head_types bs) (head_inputs bs) (head_nodes bs) x
 
 -- it is told by the head's counts
-pub long_told : (bs : List ℕ) (ps rs is ks xs ys zs vs : ℕ) {n : Counts} {b : Bool} → n ≡ head_counts bs
-    → b ≡ enough n.types n.inputs n.nodes ps rs is ks xs ys zs vs
-    → b ≡ enough (head_types bs) (head_inputs bs) (head_nodes bs) ps rs is ks xs ys zs vs
-unfolding head_counts
-long_told bs ps rs is ks xs ys zs vs e p = p ∙ ap (λ (m : Counts). enough m.types m.inputs m.nodes ps rs is ks xs ys zs vs) e
+pub long_told : (bs : List ℕ) (x : Tables) {n : Counts} {b : Bool} → n ≡ head_counts bs
+    → b ≡ enough n.types n.inputs n.nodes (length x.parameters) (length x.results) (length x.inputs) (length x.kinds) (length x.a) (length x.b) (length x.c)
+    (length x.values)
+    → b ≡ long_for bs x
+unfolding head_counts long_enough
+long_told bs x e p = p ∙ ap (λ (m : Counts). long_enough m.types m.inputs m.nodes x) e
 
-module _ (bs : List ℕ) {v : Verdict} (told : refusal_of v ≡ file_refusal bs) where
-  -- The reply by the file's verdict and the lengths of the columns.
-  pub refused_read : (long : Bool) {f : Refusal} → v ≡ Verdict.Refused f → Reading.Refused f ≡ read_reply bs long
-  unfolding read_reply reading or_else refusal_of
-  refused_read long e = rw (← told, e)
+-- the reply by a verdict
+module _ {v : Verdict} {p : Option Lambdamix.Refusal} (told : refusal_of v ≡ p) where
+  pub reads_passed : {n m : Counts} → v ≡ (Ok tt) → n ≡ m → Ok n ≡ reading p m
+  unfolding reading refusal_of
+  reads_passed e c = rw (← told, e) (ap Ok c)
 
-  pub passed_read : {n : Counts} {b long : Bool} → v ≡ Verdict.Passed → n ≡ head_counts bs → b ≡ long → b ≡ true → Reading.Read n ≡ read_reply bs long
-  unfolding read_reply reading or_else refused_unless refusal_of head_counts
-  passed_read e c p q = rw (← told, e, ← p, q) (ap Reading.Read c)
+  pub reads_refused : (m : Counts) {f : Refusal} {r : Reading} → v ≡ Err f → r ≡ Err f → r ≡ reading p m
+  unfolding reading refusal_of
+  reads_refused m e h = rw (← told, e) h
 
-  pub short_read : {b long : Bool} → v ≡ Verdict.Passed → b ≡ long → b ≡ false → Reading.Refused (record { number = 21; place = 0 }) ≡ read_reply bs long
-  unfolding read_reply reading or_else refused_unless refusal_of
-  short_read e p q = rw (← told, e, ← p, q)
+-- what a reading that read, and one that was refused, say of what refuses
+was_read : (p : Option Lambdamix.Refusal) (n : Counts) {m : Counts} → reading p n ≡ Ok m → (p ≡ none) × (m ≡ n)
+unfolding reading
+was_read none n e = (refl, cc)
+was_read (some f) n e = let z : ◌≡◌ {A = ℕ} 0 1 = cc in let w : ⊥ = omega arith in absurd w
 
--- What is counted fits: nothing, unless the file is read.
-pub counts_fit : (bs : List ℕ) (x : Tables) {r : Reading} {m : Counts} → r ≡ read_reply bs (long_for bs x) → m ≡ counts_read r → FillFits m x
-unfolding read_reply reading or_else refused_unless head_counts
-counts_fit bs x p c = rw (c, p) (go (file_refusal bs) (long_for bs x) refl)
-  where
-    go : (f : Option Lambdamix.Refusal) (long : Bool) → long_for bs x ≡ long → FillFits (counts_read (reading (or_else f (refused_unless long 21
-        0)) (head_counts bs))) x
-    go none true e = fill_fits (head_counts bs) x e
-    go none false e = none_fits x
-    go (some f) long e = none_fits x
+was_refused : (p : Option Lambdamix.Refusal) (n : Counts) {f : Refusal} → reading p n ≡ Err f → (g : Lambdamix.Refusal) × (p ≡ some g)
+unfolding reading
+was_refused none n e = let z : ◌≡◌ {A = ℕ} 0 1 = cc in let w : ⊥ = omega arith in absurd w
+was_refused (some g) n e = (g, refl)
 
--- The reply and the tables of a file.
-pub reads_by : (bs : List ℕ) (x y : Tables) {r : Reading} {m : Counts} → r ≡ read_reply bs (long_for bs x) → m ≡ counts_read r
-    → y ≡ filled (script_by m bs) x → Reads bs x y r
-unfolding read_reply read_refusal long_enough enough reading or_else refused_unless read_tables head_counts
-reads_by bs x y p c h = record { reply = ap reading_reply p ∙ reading_reply_lem _ _; tables = rw (c, p) at h ∙ go (file_refusal bs) (long_for bs x) }
-  where
-    go : (f : Option Lambdamix.Refusal) (long : Bool)
-        → filled (script_by (counts_read (reading (or_else f (refused_unless long 21 0)) (head_counts bs))) bs) x ≡ read_tables (or_else f
-        (refused_unless long 21 0)) bs x
-    go none true = ap (λ (s : Script). filled s x) (by_head bs refl)
-    go none false = by_none bs x
-    go (some f) long = by_none bs x
+module _ (bs : List ℕ) (x : Tables) {r : Reading} (told : r ≡ read_reply bs (long_for bs x)) where
+  free : {n : Counts} → r ≡ Ok n → (read_refusal bs x ≡ none) × (n ≡ head_counts bs)
+  unfolding read_refusal read_reply
+  free o = was_read _ _ (sym told ∙ o)
+
+  refused : {f : Refusal} → r ≡ Err f → (g : Lambdamix.Refusal) × (read_refusal bs x ≡ some g)
+  unfolding read_refusal read_reply
+  refused o = was_refused _ _ (sym told ∙ o)
+
+  replies : {w : Reading} → w ≡ r → reading_reply w ≡ replying (read_refusal bs x) (head_counts bs)
+  unfolding read_refusal read_reply
+  replies e = ap reading_reply (e ∙ told) ∙ reading_reply_lem _ _
+
+  -- What is read fits,
+  pub counts_fit : {n : Counts} → r ≡ Ok n → FillFits n x
+  unfolding read_refusal head_counts long_enough
+  counts_fit o =
+      let (f, e) = free o in
+      rw e (fill_fits (head_counts bs) x (not_refused _ 21 0 (neither _ _ f).1))
+
+  -- and is what fills the tables;
+  pub reads_by : (y : Tables) {n : Counts} {w : Reading} → r ≡ Ok n → y ≡ filled (script_by n bs) x → w ≡ Ok n → Reads bs x y w
+  unfolding read_tables
+  reads_by y o h q =
+      let (f, e) = free o in
+      record { reply = replies (q ∙ sym o); tables = rw f (h ∙ ap (λ (s : Script). filled s x) (by_head bs e)) }
+
+  -- what is refused leaves them.
+  pub reads_none : {f : Refusal} {w : Reading} → r ≡ Err f → w ≡ Err f → Reads bs x x w
+  unfolding read_tables
+  reads_none o q =
+      let (g, e) = refused o in
+      record { reply = replies (q ∙ sym o); tables = rw e }

@@ -4,7 +4,7 @@ use Rattle.std.proofs.Math.Option.{Option, none, some}
 use Rattle.lambdamix.specs.Script.{Script}
 use Rattle.lambdamix.specs.Refusal.{Refusal, or_else, refused_unless}
 use Rattle.script.specs.declared.Counts.{Counts}
-use Rattle.script.specs.declared.Reading.{Reading}
+use Rattle.script.specs.Answers.{Reading}
 use Rattle.script.specs.File.{script_with}
 use Rattle.script.specs.Tables.{Tables}
 use Rattle.script.specs.Replies.{head_counts}
@@ -36,11 +36,3 @@ pub record FillFits (n : Counts) (x : Tables) : Type 0 where
 -- the reader's reply, by whether the tables are long enough
 unfoldable pub read_reply : List ℕ → Bool → Reading
 read_reply bs long = reading (or_else (file_refusal bs) (refused_unless long 21 0)) (head_counts bs)
-
-abbrev pub no_counts : Counts
-no_counts = record { types = 0; inputs = 0; nodes = 0 }
-
--- the counts of what is filled in: all that was read, or nothing
-abbrev pub counts_read : Reading → Counts
-counts_read (Reading.Read n) = n
-counts_read (Reading.Refused f) = no_counts

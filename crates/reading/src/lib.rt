@@ -2,6 +2,6 @@
 #![tactic(auto)]
 
 pub mod bytes;
-mod fill;
+pub mod fill;
 pub mod marks;
 pub mod reader;

@@ -30,7 +30,7 @@ line_placed one two three = join (join one two) three
 
 -- ---- that they fit
 
-decimal_short : (z : ℤ) → Fits32 z → length (decimal z) ≤ 21
+pub decimal_short : (z : ℤ) → Fits32 z → length (decimal z) ≤ 21
 unfolding decimal
 decimal_short (pos n) h = omega (arith, digits_within 19 n (omega arith))
 decimal_short (negsuc n) h = omega (arith, digits_within 19 (suc n) (omega arith))
@@ -40,11 +40,6 @@ pub prints_line :
     Prints (steps_text k ++ v ++ ascii "\n") x y r
 unfolding steps_text ascii max_bytes
 prints_line k v h l p = record { short = simp length-append (omega (arith, digits_within 4 k (omega arith))); placed = p }
-
-pub prints_number :
-    (k : ℕ) (z : ℤ) {x y : List ℕ} {r : ℕ} → k < 65536 → Fits32 z → Placed (steps_text k ++ decimal z ++ ascii "\n") 0 x y r →
-    Prints (steps_text k ++ decimal z ++ ascii "\n") x y r
-prints_number k z h f p = prints_line k (decimal z) h (decimal_short z f) p
 
 unfinished_short : (b : Bool) (n p : ℕ) → n < 256 → p < 18446744073709551616 → length (unfinished_text b n p) ≤ max_bytes
 unfolding max_bytes unfinished_text pair_text ascii

@@ -4,14 +4,14 @@ use Rattle.lambdamix.specs.Limits.{max_fuel}
 use Rattle.script.specs.declared.Counts.{Counts}
 use Rattle.script.specs.Tables.{Tables}
 use Rattle.cells.specs.Room.{heap_suffices}
-use Rattle.plainrun.specs.declared.Reply.{Reply}
+use Rattle.plainrun.specs.Running.{Told}
 use Rattle.plainrun.specs.Running.{running, replied}
 use Rattle.streams.specs.Given.{given_settings}
 use Rattle.streams.specs.Answers.{Texts}
 use Rattle.report.specs.Report.{program_ran, unfinished_text, reply_text}
 
 -- the plain run's call with the numbers that follow a script, in a store that suffices
-pub record RunsGiven (n : Counts) (x : Tables) (rest : List ℕ) (r : Reply) : Type 0 where
+pub record RunsGiven (n : Counts) (x : Tables) (rest : List ℕ) (r : Told) : Type 0 where
   pub heap : List ℕ
   pub enough : heap_suffices max_fuel (length heap) ≡ true
   pub gives : replied r ≡ running n.types n.inputs n.nodes x (given_settings rest) max_fuel heap

@@ -1,12 +1,13 @@
 // The lines that `benchrun` prints. Each part is written into what remains of the lent output.
-ghost use Rattle.std.specs.Prelude.{ltb, ◌++◌};
-ghost use Rattle.lambdamix.specs.Text.{ascii, decimal};
-ghost use Rattle.plainrun.specs.Running.{replied};
+ghost use Rattle.std.specs.Prelude.{ltb, ◌++◌, ◌≤◌, length};
+ghost use Rattle.lambdamix.specs.Text.{ascii};
+ghost use Rattle.plainrun.specs.Running.{outcome_of, replied};
 ghost use Rattle.text.specs.Places.{Placed};
 ghost use Rattle.streams.specs.Printed.{Prints};
-ghost use Rattle.report.specs.Report.{steps_text, reply_text, unfinished_text};
+ghost use Rattle.report.specs.Report.{steps_text, outcome_text, reply_text, unfinished_text};
 
-use plainrun::Reply;
+use plainrun::{Finished, Value};
+use script::Unfinished;
 use streams::print::print_pair;
 use text::decimals::{decimal_at, digits_at};
 use text::parts::{letter_at, text_at};
@@ -20,25 +21,27 @@ fn print_steps(out: &mut [u8], steps: u16) -> usize
     letter_at(out, two, b'\n')
 }
 
-// The number, on its own line behind the steps.
-fn print_number(out: &mut [u8], z: i32, steps: u16) -> usize
-    ensures { Placed (steps_text steps ++ decimal z ++ ascii "\n") 0 out.old out.new result }
+// "the number or `a function`"
+fn print_value(out: &mut [u8], at: usize, value: Value) -> usize
+    ensures placed { Placed (outcome_text (outcome_of value)) at out.old out.new result }
+    ensures short { length (outcome_text (outcome_of value)) ≤ 21 }
 {
-    let one = print_steps(out, steps);
-    let two = decimal_at(out, one, z);
+    match value {
+        Value::Number(z) => decimal_at(out, at, z),
+        Value::Function => text_at(out, at, b"a function"),
+    }
+}
+
+// What was given, on its own line behind the steps.
+fn print_finished(out: &mut [u8], done: Finished) -> usize
+    ensures { Prints (steps_text done.steps ++ outcome_text (outcome_of done.value) ++ ascii "\n") out.old out.new result }
+{
+    let one = print_steps(out, done.steps);
+    let two = print_value(out, one, done.value);
     letter_at(out, two, b'\n')
 }
 
-// "`a function`", on its own line behind the steps.
-fn print_function(out: &mut [u8], steps: u16) -> usize
-    ensures { Placed (steps_text steps ++ ascii "a function" ++ ascii "\n") 0 out.old out.new result }
-{
-    let one = print_steps(out, steps);
-    let two = text_at(out, one, b"a function");
-    letter_at(out, two, b'\n')
-}
-
-// "`refused N P` alone, or `stopped N P` alone"
+// "`refused N P` alone, or `stopped N P` alone": the other program's lines have `accepted` before a stop.
 pub(crate) fn print_unfinished(out: &mut [u8], number: u8, place: usize) -> usize
     ensures { Prints (unfinished_text (ltb number 20) number place) out.old out.new result }
 {
@@ -49,12 +52,11 @@ pub(crate) fn print_unfinished(out: &mut [u8], number: u8, place: usize) -> usiz
 }
 
 // The lines of a reply.
-pub(crate) fn print_reply(out: &mut [u8], reply: Reply) -> usize
+pub(crate) fn print_reply(out: &mut [u8], reply: Result<Finished, Unfinished>) -> usize
     ensures { Prints (reply_text (replied reply)) out.old out.new result }
 {
     match reply {
-        Reply::Number(z, steps) => print_number(out, z, steps),
-        Reply::Function(steps) => print_function(out, steps),
-        Reply::Unfinished(f, _) => print_unfinished(out, f.number, f.place),
+        Ok(done) => print_finished(out, done),
+        Err(u) => print_unfinished(out, u.refusal.number, u.refusal.place),
     }
 }

@@ -50,25 +50,25 @@ pub below_none : (xs : List ℕ) (p q : ℕ) → p ≤ q → code_below xs p q �
 unfolding code_below
 below_none xs p q h = below_out p (lit (pos 0)) (code_at xs) q h
 
--- any other kind than those of code with a row, as a match on these leaves it
-abbrev pub Other : Type 0 → ℕ → Type 0
-Other N k = (((((N × (k ≡ 1 → ⊥)) × (k ≡ 8 → ⊥)) × (k ≡ 9 → ⊥)) × (k ≡ 10 → ⊥)) × (k ≡ 11 → ⊥)) × (k ≡ 12 → ⊥)
+-- any other kind than those of code with a row
+abbrev pub Other : ℕ → Type 0
+Other k = (k ≡ 1 → ⊥) × (k ≡ 8 → ⊥) × (k ≡ 9 → ⊥) × (k ≡ 10 → ⊥) × (k ≡ 11 → ⊥) × (k ≡ 12 → ⊥)
 
-other_kind : {N : Type 0} (self : ℕ → Code) (x : ℕ) {k : ℕ} → AnyKind k → Other N k → code_by (step_of k) self x ≡ lit (word_value x)
+other_kind : (self : ℕ → Code) (x : ℕ) {k : ℕ} → AnyKind k → Other k → code_by (step_of k) self x ≡ lit (word_value x)
 unfolding step_of rows code_by
 other_kind self x (in_table constant_kind) r = refl
-other_kind self x (in_table variable_kind) r = absurd (r.0.0.0.0.0.1 refl)
+other_kind self x (in_table variable_kind) r = absurd (r.0 refl)
 other_kind self x (in_table lift_kind) r = refl
 other_kind self x (in_table function_kind) r = refl
 other_kind self x (in_table application_kind) r = refl
 other_kind self x (in_table fix_kind) r = refl
 other_kind self x (in_table conditional_kind) r = refl
 other_kind self x (in_table operation_kind) r = refl
-other_kind self x (in_table dynamic_function_kind) r = absurd (r.0.0.0.0.1 refl)
-other_kind self x (in_table dynamic_application_kind) r = absurd (r.0.0.0.1 refl)
-other_kind self x (in_table dynamic_fix_kind) r = absurd (r.0.0.1 refl)
-other_kind self x (in_table dynamic_if_kind) r = absurd (r.0.1 refl)
-other_kind self x (in_table dynamic_operation_kind) r = absurd (r.1 refl)
+other_kind self x (in_table dynamic_function_kind) r = absurd (r.1 refl)
+other_kind self x (in_table dynamic_application_kind) r = absurd (r.2 refl)
+other_kind self x (in_table dynamic_fix_kind) r = absurd (r.3 refl)
+other_kind self x (in_table dynamic_if_kind) r = absurd (r.4 refl)
+other_kind self x (in_table dynamic_operation_kind) r = absurd (r.5 refl)
 other_kind self x (past_table h) r = rw (blank_row_lem h)
 
 -- the cell x of kind k stands at p
@@ -92,7 +92,7 @@ module _ {xs : List ℕ} {p x k : ℕ} (s : Cell xs p x k) where
   pub is_row : {j : ℕ} {r : Row} → HasRow j → k ≡ j → r ≡ row_at j → ByRow (code_at xs p) j r (code_below xs p) x
   is_row h g e = rw (by_kind g, e) (kind_row h (code_below xs p) x)
 
-  pub is_constant : {N : Type 0} → Other N k → Read xs p (lit (word_value x))
+  pub is_constant : Other k → Read xs p (lit (word_value x))
   is_constant r = record { code = by_kind refl ∙ other_kind (code_below xs p) x (any_kind k) r }
 
 zero_value : word_value 0 ≡ pos 0

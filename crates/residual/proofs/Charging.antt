@@ -1,6 +1,6 @@
 -- Counting the written nodes of code with an early end is right: something is left exactly where the tree has no more nodes and
 -- is no higher than allowed, and then it is what the nodes leave; a piece that is counted twice takes as much again. Assumes nothing.
-use Prim.Native.Nat.{ℕ, zero, suc, ◌+◌, ◌-◌, ◌≤◌, ◌<◌, max}
+use Prim.Native.Nat.{ℕ, zero, suc, ◌+◌, ◌-◌, ◌≤◌, max}
 use mathlib.Core.Path.{◌≡◌, refl, sym, subst, subst⁻¹}
 use mathlib.Core.Bool.{Bool, true, false, ◌&&◌}
 use mathlib.Core.Option.{Option, none, some}
@@ -75,23 +75,21 @@ no_more c h (suc b) (suc l) e = go (subst⁻¹ (Charged (size c) (code_height c)
 
 -- a piece that took a room of b + 1 to l + 1 takes as much of that again
 second :
-    {k t b l h : ℕ} {o : Option ℕ} → Charged k t b h (some l) → Charged k t l h o →
-    (suc l ≤ suc b - suc l → none ≡ o) × ((n : ℕ) → suc b - suc l < suc l → n ≡ suc l - (suc b - suc l) → room_of n ≡ o)
+    {k t b l h : ℕ} {o : Option ℕ} (n : ℕ) → Charged k t b h (some l) → Charged k t l h o → n ≡ suc l - (suc b - suc l) → room_of n ≡ o
 unfolding room_of
-second {b = b} {l = l} (left e g) (left {r} f i) = (
-  (λ x. absurd (omega arith)),
-  λ n x y. let q : n ≡ suc r = omega arith in rw q,
-)
-second (left e g) (over f) = ((λ x. refl), λ n x y. absurd (f (omega arith) g))
+second {b = b} {l = l} n (left e g) (left {r} f i) y = let q : n ≡ suc r = omega arith in rw q
+second {k} {l = l} n (left e g) (over f) y =
+    let w : k ≤ l → ⊥ = λ x. f x g in
+    let q : n ≡ 0 = omega arith in
+    rw q
 
 pub again :
     (c : Code) (h room left : ℕ) → room_of left ≡ charge_one c (room_of room) h →
-    (left ≤ room - left → none ≡ charge_one c (room_of left) h)
-    × ((n : ℕ) → room - left < left → n ≡ left - (room - left) → room_of n ≡ charge_one c (room_of left) h)
+    (n : ℕ) → n ≡ left - (room - left) → room_of n ≡ charge_one c (room_of left) h
 unfolding charge room_of
-again c h room zero e = ((λ x. refl), λ n x y. absurd (omega arith))
-again c h zero (suc l) e = let z : ◌≡◌ {A = ℕ} 0 1 = cc in absurd (omega arith)
-again c h (suc b) (suc l) e = second (subst⁻¹ (Charged (size c) (code_height c) b h) e (charged c b h)) (charged c l h)
+again c h room zero e n y = let q : n ≡ 0 = omega arith in rw q
+again c h zero (suc l) e n y = let z : ◌≡◌ {A = ℕ} 0 1 = cc in absurd (omega arith)
+again c h (suc b) (suc l) e n y = second n (subst⁻¹ (Charged (size c) (code_height c) b h) e (charged c b h)) (charged c l h) y
 
 -- Code fits a file exactly where something is left of the most nodes and the greatest height; what is left tells its nodes.
 pub charge_fits : (c : Code) → charge c max_nodes max_height ≡ none → fits c ≡ false

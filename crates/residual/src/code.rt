@@ -7,25 +7,21 @@ ghost use Rattle.residual.specs.Cells.{field_by};
 use lambdamix::Use;
 
 // The number that an operator is written as.
+// Past the table stands +, whose number is 0.
 fn operator(f: u16) -> u16
     ensures { result ≡ operator_number (operator_of f) }
 {
-    if f < 6 {
-        return f;
-    }
-    0
+    if f < 6 { f } else { 0 }
 }
 
 // A field by its use: a name stands as it is, an operator as its number.
+#[tactic(auto, unfolding(crate::specs::Cells::field_by))]
 pub fn plain_field(u: Use, f: u16) -> u16
     ensures { result ≡ field_by u f 0 }
 {
     match u {
-        Use::Nothing => 0,
-        Use::Name => f,
-        Use::Binder => f,
-        Use::Child => 0,
-        Use::ParameterType => 0,
+        Use::Name | Use::Binder => f,
         Use::Operation => operator(f),
+        _ => 0,
     }
 }

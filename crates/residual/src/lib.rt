@@ -5,11 +5,9 @@ pub mod code;
 pub mod limits;
 pub mod size;
 
-use script::Refusal;
-
-// The reply to a call: the steps and the count of written nodes of finished code; or number and place, with the steps.
+// What a call that makes finished code replies: its steps and the count of written nodes. Any other replies `Unfinished` of the crate `script`.
 #[derive(Clone, Copy)]
-pub enum Reply {
-    Made(u16, u16),
-    Unmade(Refusal, u16),
+pub struct Made {
+    pub steps: u16,
+    pub nodes: u16,
 }

@@ -1,24 +1,22 @@
 // The written tree of code is counted before it is written, by recursion on falling places. A shared piece counts each time; where
-// nodes or height give out, the count ends. What is left is one number: the nodes and one more, or 0. Which fields of a cell hold
-// pieces is told by the row of its kind; a variable is counted without a call.
+// nodes or height give out, the count ends. What is left is one number, as `room_of` of the promises reads it: the nodes and one more, or 0. Which fields of a
+// cell hold pieces is told by the row of its kind, which an arm of that kind reads so that the compiler folds it, and a variable is counted without a call:
+// docs/SPEED.md, "What was changed", 5 and 7.
 ghost use Rattle.std.specs.Prelude.{ℕ, ◌≤◌, ◌≡◌, true, length, get_or};
 ghost use Rattle.lambdamix.specs.declared.Use.TheVariants.{Child};
 ghost use Rattle.lambdamix.specs.Code.{Code, nil_c, ref};
 ghost use Rattle.residual.specs.Cells.{code_at, code_below, piece_by, row_pieces, charge_one, room_of, Charges, ChargesUnder, ChargesAll, Counted};
 
 use crate::limits::{MAX_HEIGHT, MAX_NODES};
-use lambdamix::Use;
-use script::kinds::row_of;
+use lambdamix::{Step, Use};
+use script::kinds::{self, step_row};
 use script::{Row, word};
 
 // One node, as a variable is.
 fn charge_node(room: u16, height: u16) -> u16
     ensures { room_of result ≡ charge_one (ref 0) (room_of room) height }
 {
-    if room < 2 {
-        return 0;
-    }
-    if height == 0 {
+    if room < 2 || height == 0 {
         return 0;
     }
     room - 1
@@ -28,10 +26,7 @@ fn charge_node(room: u16, height: u16) -> u16
 fn same_piece(v: Use, g: u16, f: u16) -> bool
     ensures { result ≡ true → (v ≡ Child) × (g ≡ f) }
 {
-    let Use::Child = v else {
-        return false;
-    };
-    g == f
+    matches!(v, Use::Child) && g == f
 }
 
 // A piece once more, which took the room to what is left: it takes as much again, if that is there.
@@ -39,26 +34,44 @@ fn charge_again(room: u16, left: u16) -> u16
     requires { left ≤ room }
     ensures { (c : Code) (h : ℕ) → room_of left ≡ charge_one c (room_of room) h → room_of result ≡ charge_one c (room_of left) h }
 {
-    let taken = room - left;
-    if left <= taken {
-        return 0;
-    }
-    left - taken
+    left.saturating_sub(room - left)
 }
 
 // What is under the node of the cell x at p, in a height of one more than some levels.
+// Not by `by_kind`: only kinds of code stand here.
 #[cycle(charges)]
 fn charge_pieces(codes: &[u64], p: u16, x: u64, room: u16, levels: u16) -> u16
     requires { (p ≤ length codes.now) × (x ≡ get_or codes.now p 0) }
     ensures { ChargesUnder codes.now p room levels result }
 {
     match word::kind(x) {
-        1 => charge_row(codes, p, x, row_of(1), room, levels),
-        8 => charge_row(codes, p, x, row_of(8), room, levels),
-        9 => charge_row(codes, p, x, row_of(9), room, levels),
-        10 => charge_row(codes, p, x, row_of(10), room, levels),
-        11 => charge_row(codes, p, x, row_of(11), room, levels),
-        12 => charge_row(codes, p, x, row_of(12), room, levels),
+        kinds::VARIABLE => charge_row(codes, p, x, step_row(Step::Variable), room, levels),
+        kinds::DYNAMIC_FUNCTION => charge_row(
+            codes,
+            p,
+            x,
+            step_row(Step::DynamicFunction),
+            room,
+            levels,
+        ),
+        kinds::DYNAMIC_APPLICATION => charge_row(
+            codes,
+            p,
+            x,
+            step_row(Step::DynamicApplication),
+            room,
+            levels,
+        ),
+        kinds::DYNAMIC_FIX => charge_row(codes, p, x, step_row(Step::DynamicFix), room, levels),
+        kinds::DYNAMIC_IF => charge_row(codes, p, x, step_row(Step::DynamicIf), room, levels),
+        kinds::DYNAMIC_OPERATION => charge_row(
+            codes,
+            p,
+            x,
+            step_row(Step::DynamicOperation),
+            room,
+            levels,
+        ),
         _ => charge_node(room, 1),
     }
 }
@@ -69,9 +82,7 @@ fn charge_row(codes: &[u64], p: u16, x: u64, row: Row, room: u16, levels: u16) -
     requires { p ≤ length codes.now }
     ensures { ChargesAll (row_pieces row (code_below codes.now p) x) room levels result }
 {
-    let u = row.0;
-    let v = row.1;
-    let w = row.2;
+    let Row(u, v, w) = row;
     let i = word::field_a(x);
     let j = word::field_b(x);
     let a = charge_field(codes, p, u, i, room, Use::Nothing, 0, room, levels);
@@ -118,7 +129,7 @@ fn charge_piece(codes: &[u64], p: u16, q: u16, room: u16, levels: u16) -> u16
         return charge_node(room - 1, levels);
     }
     let x = codes[q as usize];
-    if word::kind(x) == 1 {
+    if word::kind(x) == kinds::VARIABLE {
         return room - 1;
     }
     if levels == 0 {
@@ -131,9 +142,8 @@ fn charge_piece(codes: &[u64], p: u16, q: u16, room: u16, levels: u16) -> u16
 pub fn charge(codes: &[u64], p: u16) -> u16
     ensures { Counted (code_at codes.now p) result }
 {
-    let i = p as usize;
-    if codes.len() <= i {
+    let Some(x) = codes.get(p as usize) else {
         return MAX_NODES - 1;
-    }
-    charge_pieces(codes, p, codes[i], MAX_NODES, MAX_HEIGHT - 2)
+    };
+    charge_pieces(codes, p, *x, MAX_NODES, MAX_HEIGHT - 2)
 }

@@ -1,5 +1,6 @@
 -- A script that is held is answered as the maker's call says: by what it told, or by its file, which none of 1 to 8 holds of; what is
 -- listed of the file is the written tree of the code. Assumes nothing.
+use Rattle.std.specs.Prelude.{Err, Ok}
 use Prim.Native.Nat.{ℕ, ◌≤◌}
 use mathlib.Core.Path.{◌≡◌, sym, ap, ◌∙◌}
 use mathlib.Core.Bool.{true}
@@ -17,7 +18,7 @@ use Rattle.lambdamix.specs.Specializing.{specialized, finished}
 use Rattle.lambdamix.specs.Listing.{listing}
 use Rattle.lambdamix.proofs.Tests.{and_both}
 use Rattle.script.specs.declared.Counts.{Counts}
-use Rattle.script.specs.declared.Refusal as Told
+use Rattle.script.specs.declared.Unfinished.{Unfinished}
 use Rattle.script.specs.File.{file_bytes, file_length, node_offset, head_inputs, script_in}
 use Rattle.script.specs.Refusals.{script_refusal, file_refusal}
 use Rattle.script.specs.Replies.{head_counts}
@@ -26,8 +27,8 @@ use Rattle.script.specs.Tables.{Tables, over}
 use Rattle.script.proofs.RefusalLaws.{neither}
 use Rattle.file.proofs.FileLaws.{file_refusal_lem, read_written, script_counts, script_passes}
 use Rattle.file.proofs.AcceptedAgain.{written_again, values_fit}
-use Rattle.residual.specs.declared.Reply.{Reply}
-use Rattle.residual.specs.AfterRun.{nodes_in, made, Made, replied, written_by, after_run}
+use Rattle.residual.specs.declared.Made as Finished
+use Rattle.residual.specs.AfterRun.{nodes_in, made, Made, Told, replied, written_by, after_run}
 use Rattle.specializer.specs.Making.{made_unless, made_file}
 use Rattle.specializer.proofs.Exactly.{made_length, made_file_lem, made_code}
 use Rattle.respond.specs.Response.{program_refusal, program_made, reply_text, made_text}
@@ -94,23 +95,23 @@ made_passes bs rest bytes all k l e =
 
 -- ---- a script that is held
 
-module _ {n : Counts} {x : Tables} {rest file left : List ℕ} {reply : Reply} (m : MakesGiven n x rest file left reply)
+module _ {n : Counts} {x : Tables} {rest file left : List ℕ} {reply : Told} (m : MakesGiven n x rest file left reply)
     (zeros : file ≡ replicate max_bytes 0) {r : ℕ} {out printed : List ℕ} where
   -- the maker told number and place
   pub answered_unmade :
-      {f : Told.Refusal} {k : ℕ} → reply ≡ Reply.Unmade f k → Prints (unmade_text (ltb f.number 20) f.number f.place) out printed r →
+      {u : Unfinished} → reply ≡ Err u → Prints (unmade_text (ltb u.refusal.number 20) u.refusal.number u.refusal.place) out printed r →
       AnswersScript made_texts n x rest out printed r
   unfolding replied made_text reply_text
   answered_unmade q p = record { answers = λ bs h all long. rw (← program_made_lem h m zeros, q) p }
 
   -- the maker wrote a file
   pub answered_made :
-      {k l : ℕ} → reply ≡ Reply.Made k l → PrintsMade n.inputs k l left out printed r → AnswersScript made_texts n x rest out printed r
+      {d : Finished.Made} → reply ≡ Ok d → PrintsMade n.inputs d.steps d.nodes left out printed r → AnswersScript made_texts n x rest out printed r
   unfolding replied head_counts made_text reply_text
-  answered_made {k} {l} q p = record {
+  answered_made {d} q p = record {
     answers = λ bs h all long.
-        let gives : record { reply = made k l; output = left } ≡ program_made bs rest = rw q at (program_made_lem h m zeros) in
-        let passes = made_passes bs rest h.bytes all k l (sym (ap (λ (g : Made). g.reply) gives)) in
+        let gives : record { reply = made d.steps d.nodes; output = left } ≡ program_made bs rest = rw q at (program_made_lem h m zeros) in
+        let passes = made_passes bs rest h.bytes all d.steps d.nodes (sym (ap (λ (g : Made). g.reply) gives)) in
         let inputs : n.inputs ≡ head_inputs bs = ap (λ (m : Counts). m.inputs) h.counts in
         rw (← gives, ← inputs) (p.prints (rw (← gives, ← inputs) at passes) long);
   }

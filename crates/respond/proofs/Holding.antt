@@ -1,17 +1,18 @@
 -- A file that passes 1 to 8 is read, and its listing is printed behind the counts. Assumes nothing.
-use Prim.Native.Nat.{ℕ, ◌-◌, ◌≤◌, min}
+use Rattle.std.specs.Prelude.{Err, Ok}
+use Prim.Native.Nat.{ℕ, ◌≤◌, min}
 use mathlib.Core.Path.{◌≡◌, sym, ap, ◌∙◌, subst}
 use mathlib.Core.Bool.{true}
 use mathlib.Core.List.{List}
 use mathlib.Core.Option.{none}
 use native.Mathlib.Omega.{arith}
-use lib.ListN.{length, take, drop, length-append}
+use lib.ListN.{length, take, length-append}
 use Rattle.lambdamix.specs.Limits.{max_types, max_inputs, max_nodes, max_bytes}
 use Rattle.lambdamix.specs.Script.{node_count}
 use Rattle.lambdamix.specs.Listing.{listing}
 use Rattle.script.specs.declared.Counts.{Counts}
 use Rattle.script.specs.declared.Refusal as Told
-use Rattle.script.specs.declared.Reading.{Reading}
+use Rattle.script.specs.Answers.{Reading}
 use Rattle.script.specs.File.{file_length, head_types, head_inputs, head_nodes, script_in}
 use Rattle.script.specs.Refusals.{file_refusal}
 use Rattle.file.specs.Encodable.{AllBytes}
@@ -23,7 +24,7 @@ use Rattle.printer.specs.ListCalls.{tables_text}
 use Rattle.text.proofs.Writing.{join}
 use Rattle.printer.proofs.ListingBound.{listing_bytes_lem}
 use Rattle.specializer.specs.Making.{made_file}
-use Rattle.respond.specs.Stages.{listing_bytes, ListsAt, ListsReading, ListsFile, PrintsMade}
+use Rattle.respond.specs.Stages.{listing_bytes, ListsAt, ListsFile, PrintsMade}
 use Rattle.streams.specs.Printed.{lines_bytes, CountsPlaced}
 use Rattle.streams.specs.Held.{Held}
 use Rattle.streams.proofs.Files.{file_counts, held_passes}
@@ -39,37 +40,31 @@ file_bytes_lem bs all e =
     let l = in_limits (head_types bs) (head_inputs bs) (head_nodes bs) (file_counts bs e) in
     omega (arith, listing_bytes_lem (script_in bs) (read_fits bs all) (script_passes bs all e), c.2, l.nodes)
 
-module _ {x : Tables} {at : ℕ} {before after : List ℕ} {told : Reading} {e : ℕ} where
-  pub listed_read : {n : Counts} → told ≡ Reading.Read n → ListsAt n x at before after e → ListsReading told x at before after e
-  listed_read o l = record { read = λ m q. subst (λ (k : Counts). ListsAt k x at before after e) (one_count o q) l }
+module _ {bs : List ℕ} {x y : Tables} {told : Reading} {at : ℕ} {before after : List ℕ} {e : ℕ}
+    (room : long_enough max_types max_inputs max_nodes x ≡ true) (reads : Reads bs x y told) where
+  -- a file that passes is read, and its tables hold it;
+  pub file_listed : {n : Counts} → AllBytes bs → told ≡ Ok n → ListsAt n y at before after e → ListsFile bs at before after e
+  unfolding tables_text
+  file_listed all o l =
+      record {
+        lists = λ passed enough.
+            let h : Held bs (head_counts bs) y = held room reads all passed in
+            let text : tables_text (head_counts bs) y ≡ listing (script_in bs) = ap listing h.script in
+            let short = file_bytes_lem bs all passed in
+            let here = subst (λ (k : Counts). ListsAt k y at before after e) (one_count o (passed_read room reads passed)) l in
+            record { short = short; placed = rw text at (here.lists (held_passes h) (rw text (omega arith))) };
+      }
 
-  pub listed_never : {f : Told.Refusal} → told ≡ Reading.Refused f → ListsReading told x at before after e
-  listed_never o = record { read = λ m q. absurd (refused_not_read (sym o ∙ q)) }
-
--- a file that passes is read, and its tables hold it
-pub file_listed :
-    {bs : List ℕ} {x y : Tables} {told : Reading} {at : ℕ} {before after : List ℕ} {e : ℕ} →
-    long_enough max_types max_inputs max_nodes x ≡ true → Reads bs x y told → AllBytes bs → ListsReading told y at before after e →
-    ListsFile bs at before after e
-unfolding tables_text
-file_listed {bs} {y = y} room reads all l =
-    record {
-      lists = λ passed enough.
-          let h : Held bs (head_counts bs) y = held room reads all passed in
-          let text : tables_text (head_counts bs) y ≡ listing (script_in bs) = ap listing h.script in
-          let short = file_bytes_lem bs all passed in
-          record {
-            short = short;
-            placed = rw text at ((l.read (head_counts bs) (passed_read room reads passed)).lists (held_passes h) (rw text (omega arith)));
-          };
-    }
+  -- one that is refused does not pass
+  pub never_listed : {f : Told.Refusal} → told ≡ Err f → ListsFile bs at before after e
+  never_listed o = record { lists = λ passed enough. absurd (refused_not_read (sym o ∙ passed_read room reads passed)) }
 
 -- ---- the counts and the listing
 
 pub made_printed :
     {i k n size end at r : ℕ} {file x x₁ y : List ℕ} →
     end ≡ min size (length file) → size ≡ file_length 0 i n → length x₁ ≡ length x → CountsPlaced k n x x₁ at →
-    ListsFile (take (end - 0) (drop 0 file)) at x₁ y r → PrintsMade i k n file x y r
+    ListsFile (take end file) at x₁ y r → PrintsMade i k n file x y r
 unfolding lines_bytes listing_bytes max_bytes max_nodes made_file
 made_printed {i} {k} {n} {file = file} e s same c l =
     let part = front_part (file_length 0 i n) file (e ∙ ap (λ (m : ℕ). min m (length file)) s) in

@@ -1,4 +1,6 @@
 -- A listing behind the lines that are printed, from the promise of `list`. Assumes nothing.
+use Rattle.std.specs.Prelude.{Ok}
+use Rattle.std.specs.Result.{result_unwrap_or}
 use Prim.Native.Nat.{ℕ, ◌+◌, ◌-◌, ◌≤◌, min}
 use mathlib.Core.Path.{◌≡◌}
 use mathlib.Core.List.{List, ◌++◌}
@@ -8,12 +10,10 @@ use lib.ListN.{length, take, drop, length-take, length-drop}
 use borrow.Author.Tests.{le-leb}
 use Rattle.lambdamix.specs.Refusal.{or_else, refused_unless}
 use Rattle.script.specs.declared.Counts.{Counts}
-use Rattle.script.specs.declared.Refusal as Told
 use Rattle.script.specs.Tables.{Tables, tables_refusal, room_refusal, written_output}
 use Rattle.script.specs.Verdicts.{writing}
 use Rattle.script.proofs.ReplyLaws.{written_answer}
-use Rattle.script.specs.declared.Writing.{Writing}
-use Rattle.script.specs.declared.Writing.TheVariants.{Written, Refused}
+use Rattle.script.specs.Answers.{Writing}
 use Rattle.text.specs.Places.{Put, most}
 use Rattle.printer.specs.ListCalls.{tables_text, list_refusal, ListsTables}
 use Rattle.text.proofs.Writing.{placed}
@@ -33,7 +33,7 @@ rest_room at from text x f h = simp (length-take, length-drop) (omega arith)
 module _ {n : Counts} {t : Tables} {x y : List ℕ} {at from : ℕ} {r : Writing}
     (f : from ≡ min at (length x)) (l : ListsTables n t (take (length x - from) (drop from x)) y r) where
   pub lists_at :
-      {k e : ℕ} → r ≡ Written k → e ≡ min (at + k) most →
+      {k e : ℕ} → k ≡ result_unwrap_or r 0 → e ≡ min (at + k) most →
       ListsAt n t at x (take from x ++ (y ++ drop (length x - from) (drop from x))) e
   unfolding writing written_output
   lists_at {k} q d = record { lists = λ passed room. placed f (put passed room) d }
@@ -43,18 +43,6 @@ module _ {n : Counts} {t : Tables} {x y : List ℕ} {at from : ℕ} {r : Writing
           Put (tables_text n t) (take (length x - from) (drop from x)) y k
       put passed room =
           let e = no_refusal n t (take (length x - from) (drop from x)) passed (rest_room at from (tables_text n t) x f room) in
-          let g : r ≡ Written (length (tables_text n t)) = rw e at (written_answer l.text) in
+          let g : r ≡ Ok (length (tables_text n t)) = rw e at (written_answer l.text) in
           let o : y ≡ written_output none (tables_text n t) (take (length x - from) (drop from x)) = rw e at l.text.output in
-          record { counted = cc; stands = λ h. o }
-
-  pub lists_never : {g : Told.Refusal} {z : List ℕ} {e : ℕ} → r ≡ Refused g → ListsAt n t at x z e
-  unfolding writing
-  lists_never q =
-      record {
-        lists = λ passed room.
-            let e = no_refusal n t (take (length x - from) (drop from x)) passed (rest_room at from (tables_text n t) x f room) in
-            let g : r ≡ Written (length (tables_text n t)) = rw e at (written_answer l.text) in
-            let w : ◌≡◌ {A = ℕ} 0 1 = cc in
-            let v : ⊥ = omega arith in
-            absurd v;
-      }
+          record { counted = rw g at q; stands = λ h. o }

@@ -17,8 +17,7 @@ use Rattle.script.specs.File.{head_inputs, script_in}
 use Rattle.script.specs.Refusals.{file_refusal}
 use Rattle.script.specs.Tables.{Tables}
 use Rattle.cells.specs.Room.{Stores, stores_suffice}
-use Rattle.residual.specs.declared.Reply.{Reply}
-use Rattle.residual.specs.AfterRun.{call_result}
+use Rattle.residual.specs.AfterRun.{Told, call_result}
 use Rattle.specializer.specs.Making.{refusal_before, made_unless, making}
 use Rattle.streams.specs.Lines.{unmade_text}
 use Rattle.respond.specs.Response.{program_refusal, program_made, reply_text, made_text}
@@ -38,7 +37,7 @@ module _ {bs : List ℕ} {n : Counts} {x : Tables} (h : Held bs n x) where
 
   -- a file of zeros, with room for every file
   pub program_made_lem :
-      {rest file left : List ℕ} {r : Reply} → MakesGiven n x rest file left r → file ≡ replicate max_bytes 0 →
+      {rest file left : List ℕ} {r : Told} → MakesGiven n x rest file left r → file ≡ replicate max_bytes 0 →
       call_result r left ≡ program_made bs rest
   unfolding program_made program_refusal or_else
   program_made_lem {rest} {file} m e =

@@ -6,14 +6,12 @@ use Rattle.lambdamix.specs.Limits.{max_nodes, program_fuel, max_bytes}
 use Rattle.lambdamix.specs.Script.{Script}
 use Rattle.lambdamix.specs.Listing.{listing}
 use Rattle.script.specs.declared.Counts.{Counts}
-use Rattle.script.specs.declared.Reading.{Reading}
 use Rattle.script.specs.File.{head_inputs, script_in}
 use Rattle.script.specs.Refusals.{file_refusal}
 use Rattle.script.specs.Tables.{Tables, tables_refusal}
 use Rattle.text.specs.Places.{Placed}
 use Rattle.printer.specs.ListCalls.{tables_text}
-use Rattle.residual.specs.declared.Reply.{Reply}
-use Rattle.residual.specs.AfterRun.{call_result}
+use Rattle.residual.specs.AfterRun.{Told, call_result}
 use Rattle.cells.specs.Room.{Stores, stores_suffice}
 use Rattle.specializer.specs.Making.{making, made_file}
 use Rattle.respond.specs.Response.{program_made, made_text}
@@ -32,10 +30,6 @@ pub record ListsAt (n : Counts) (x : Tables) (at : ℕ) (before after : List ℕ
       tables_refusal n.types n.inputs n.nodes x ≡ none → at + length (tables_text n x) ≤ length before →
       Placed (tables_text n x) at before after r
 
--- the same of the reader's answer
-pub record ListsReading (told : Reading) (x : Tables) (at : ℕ) (before after : List ℕ) (r : ℕ) : Type 0 where
-  pub read : (n : Counts) → told ≡ Reading.Read n → ListsAt n x at before after r
-
 -- a listing stands at a place
 pub record ListedAt (s : Script) (at : ℕ) (before after : List ℕ) (r : ℕ) : Type 0 where
   pub short : length (listing s) ≤ listing_bytes
@@ -52,7 +46,7 @@ pub record PrintsMade (inputs k n : ℕ) (file before after : List ℕ) (r : ℕ
       Prints (counts_text k n ++ listing (script_in (made_file inputs n file))) before after r
 
 -- the maker's call with the settings that follow a script, on stores that suffice
-pub record MakesGiven (n : Counts) (x : Tables) (rest file made : List ℕ) (r : Reply) : Type 0 where
+pub record MakesGiven (n : Counts) (x : Tables) (rest file made : List ℕ) (r : Told) : Type 0 where
   pub stores : Stores
   pub enough : stores_suffice program_fuel stores ≡ true
   pub gives : call_result r made ≡ making Making n.types n.inputs n.nodes x (given_settings rest) program_fuel stores file

@@ -14,7 +14,7 @@ use Rattle.lambdamix.specs.Arithmetic.{Fits32}
 use Rattle.lambdamix.proofs.Tests.{holds_or_fails}
 use Rattle.script.proofs.Rows.{everywhere}
 use Rattle.script.specs.Tables.{row_type, row_input, row_node, tables_of}
-use Rattle.script.specs.Widths.{AllFit, LentTables}
+use Rattle.script.specs.Widths.{AllBelow, AllFit, LentTables}
 
 pub one_more_fits :
     (s : List ℤ) {i : ℕ} → ((j : ℕ) → j < i → Fits32 (get_or s j (pos 0))) → Fits32 (get_or s i (pos 0)) →
@@ -28,13 +28,9 @@ one_more_fits s {i} h f j l = ⊎_elim (λ e. h j (ltb-true j i e)) last (holds_
 pub all_fit : {s : List ℤ} → ((j : ℕ) → j < length s → Fits32 (get_or s j (pos 0))) → AllFit s
 all_fit {s} h = record { fits = everywhere (λ (z : ℤ). Fits32 z) (pos 0) s (omega arith) h }
 
--- every element of a column is below a bound
-abbrev Below : ℕ → List ℕ → Type 0
-Below b xs = (j : ℕ) → get_or xs j 0 < b
-
 pub lent_by :
-    {t i n : ℕ} {ps rs is ks xs ys zs : List ℕ} {vs : List ℤ} → t < 65536 → i < 65536 → n < 65536 → Below 65536 ps → Below 65536 rs →
-    Below 65536 is → Below 256 ks → Below 65536 xs → Below 65536 ys → Below 65536 zs → AllFit vs →
+    {t i n : ℕ} {ps rs is ks xs ys zs : List ℕ} {vs : List ℤ} → t < 65536 → i < 65536 → n < 65536 → AllBelow 65536 ps → AllBelow 65536 rs →
+    AllBelow 65536 is → AllBelow 256 ks → AllBelow 65536 xs → AllBelow 65536 ys → AllBelow 65536 zs → AllFit vs →
     LentTables t i n (tables_of ps rs is ks xs ys zs vs)
 unfolding row_type row_input row_node
 lent_by t i n ps rs is ks xs ys zs vs =

@@ -1,5 +1,6 @@
 -- Replies and the enums that the code answers with: each case of an enum has one reply, and a reply tells one refusal or what a
 -- success carries. Assumes nothing.
+use Rattle.std.specs.Prelude.{Err, Ok}
 use Prim.Native.Nat.{ℕ}
 use mathlib.Core.Path.{◌≡◌, refl, sym, ap, ◌∙◌}
 use mathlib.Core.List.{List}
@@ -8,9 +9,9 @@ use native.Mathlib.Omega.{arith}
 use lib.ListN.{length}
 use Rattle.lambdamix.specs.Refusal as Lambdamix
 use Rattle.script.specs.declared.Counts.{Counts}
-use Rattle.script.specs.declared.Verdict.{Verdict}
-use Rattle.script.specs.declared.Reading.{Reading}
-use Rattle.script.specs.declared.Writing.{Writing}
+use Rattle.script.specs.Answers.{Verdict}
+use Rattle.script.specs.Answers.{Reading}
+use Rattle.script.specs.Answers.{Writing}
 use Rattle.script.specs.Replies.{Reply, replying, verdict_reply, reading_reply, writing_reply, head_counts, Tells, Reads, WritesText}
 use Rattle.script.specs.Verdicts.{refusal_of, reading, writing}
 use Rattle.script.specs.Tables.{Tables, read_refusal}
@@ -31,8 +32,8 @@ one_refusal {A} a b (some f) (some g) e = rw (ap (λ (r : Reply A). r.number) e,
 
 verdict_reply_lem : (v : Verdict) → verdict_reply v ≡ replying (refusal_of v) tt
 unfolding verdict_reply replying refusal_of
-verdict_reply_lem Verdict.Passed = refl
-verdict_reply_lem (Verdict.Refused f) = refl
+verdict_reply_lem (Ok tt) = refl
+verdict_reply_lem (Err f) = refl
 
 -- Between what a verdict refuses and what its reply tells.
 pub refusal_tells : {v : Verdict} {p : Option Lambdamix.Refusal} → refusal_of v ≡ p → Tells p v
@@ -54,17 +55,17 @@ writing_reply_lem (some f) k = refl
 
 is_reading : (r : Reading) (p : Option Lambdamix.Refusal) (n : Counts) → reading_reply r ≡ replying p n → r ≡ reading p n
 unfolding reading_reply reading replying
-is_reading (Reading.Read m) none n e = ap Reading.Read (carries (ap (λ (r : Reply Counts). r.carried) e))
-is_reading (Reading.Read m) (some f) n e = apart m (ap (λ (r : Reply Counts). r.carried) e)
-is_reading (Reading.Refused g) none n e = apart n (sym (ap (λ (r : Reply Counts). r.carried) e))
-is_reading (Reading.Refused g) (some f) n e = rw (← ap (λ (r : Reply Counts). r.number) e, ← ap (λ (r : Reply Counts). r.place) e)
+is_reading (Ok m) none n e = ap Ok (carries (ap (λ (r : Reply Counts). r.carried) e))
+is_reading (Ok m) (some f) n e = apart m (ap (λ (r : Reply Counts). r.carried) e)
+is_reading (Err g) none n e = apart n (sym (ap (λ (r : Reply Counts). r.carried) e))
+is_reading (Err g) (some f) n e = rw (← ap (λ (r : Reply Counts). r.number) e, ← ap (λ (r : Reply Counts). r.place) e)
 
 is_writing : (r : Writing) (p : Option Lambdamix.Refusal) (k : ℕ) → writing_reply r ≡ replying p k → r ≡ writing p k
 unfolding writing_reply writing replying
-is_writing (Writing.Written m) none k e = ap Writing.Written (carries (ap (λ (r : Reply ℕ). r.carried) e))
-is_writing (Writing.Written m) (some f) k e = apart m (ap (λ (r : Reply ℕ). r.carried) e)
-is_writing (Writing.Refused g) none k e = apart k (sym (ap (λ (r : Reply ℕ). r.carried) e))
-is_writing (Writing.Refused g) (some f) k e = rw (← ap (λ (r : Reply ℕ). r.number) e, ← ap (λ (r : Reply ℕ). r.place) e)
+is_writing (Ok m) none k e = ap Ok (carries (ap (λ (r : Reply ℕ). r.carried) e))
+is_writing (Ok m) (some f) k e = apart m (ap (λ (r : Reply ℕ). r.carried) e)
+is_writing (Err g) none k e = apart k (sym (ap (λ (r : Reply ℕ). r.carried) e))
+is_writing (Err g) (some f) k e = rw (← ap (λ (r : Reply ℕ). r.number) e, ← ap (λ (r : Reply ℕ). r.place) e)
 
 pub read_answer : {bs : List ℕ} {x y : Tables} {r : Reading} → Reads bs x y r → r ≡ reading (read_refusal bs x) (head_counts bs)
 read_answer {bs} {x} {y} {r} h = is_reading r (read_refusal bs x) (head_counts bs) h.reply

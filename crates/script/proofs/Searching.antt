@@ -5,7 +5,7 @@ use mathlib.Core.Bool.{Bool, true, false}
 use mathlib.Core.Option.{Option, none, some}
 use native.Mathlib.Omega.{arith}
 use Rattle.lambdamix.specs.Refusal.{first_by, first_failing}
-use Rattle.script.specs.declared.Found.{Found}
+use Rattle.script.specs.Answers.{Found}
 use Rattle.script.specs.Verdicts.{found_at, FoundBelow}
 
 -- the places before i of n passed the test

@@ -49,6 +49,11 @@ past_kinds k h =
     rw (past_rows k 0 h, past_rows k 1 h, past_rows k 2 h)
     (rw (past_rows 13 0 (omega arith), past_rows 13 1 (omega arith), past_rows 13 2 (omega arith)))
 
+-- and like that of a constant, which has no uses
+pub no_uses_past : (k : ℕ) → Other k 13 → row_at 0 ≡ row_at k
+unfolding row_at use_of uses_table rows
+no_uses_past k o = sym (past_kinds k (past k 13 o))
+
 three_fields : (k : ℕ) → length (get_or uses_table k []) ≤ 3
 unfolding uses_table rows every
 three_fields k = leb-true _ _ (at_every (λ (us : List Use). leb (length us) 3) [] uses_table refl refl k)

@@ -6,6 +6,8 @@ pub mod Refusals
 pub mod Columns
 pub mod Tables
 pub mod Widths
+pub mod Causes
+pub mod Answers
 pub mod Replies
 pub mod Words
 pub mod Verdicts

@@ -1,13 +1,13 @@
 -- The answers of reader, writer and checks as the code gives them, with the paper's number and values for each case: "A reply
 -- carries number, place and steps .. a success has number 0 and place 0". Reader, writer and checks take no steps. The last
 -- definitions are what these entries promise. Assumes nothing.
-use Rattle.std.specs.Prelude.{ℕ, List, ◌≡◌, length}
+use Rattle.std.specs.Prelude.{ℕ, List, ◌≡◌, length, Err, Ok}
 use Rattle.std.proofs.Math.Option.{Option, none, some}
 use Rattle.lambdamix.specs.Refusal.{Refusal}
 use Rattle.script.specs.declared.Counts.{Counts}
-use Rattle.script.specs.declared.Verdict.{Verdict}
-use Rattle.script.specs.declared.Reading.{Reading}
-use Rattle.script.specs.declared.Writing.{Writing}
+use Rattle.script.specs.Answers.{Verdict}
+use Rattle.script.specs.Answers.{Reading}
+use Rattle.script.specs.Answers.{Writing}
 use Rattle.script.specs.File.{head_types, head_inputs, head_nodes, file_bytes}
 use Rattle.script.specs.Widths.{LentTables}
 use Rattle.script.specs.Tables.{Tables, tables_script, read_refusal, read_tables, write_refusal, written_output}
@@ -23,7 +23,7 @@ unfoldable pub replying : {A : Type 0} → Option Refusal → A → Reply A
 replying none a = record { number = 0; place = 0; carried = some a }
 replying (some f) a = record { number = f.number; place = f.place; carried = none }
 
--- A form: how an answer tells a reply. By the enums below a reply is read of the answer; the structs for callers in C are made of it.
+-- A form: how an answer tells a reply. By the answers below a reply is read of the code's result; the structs for callers in C are made of it.
 abbrev pub Form : Type 0 → Type 0 → Type 1
 Form R Q = R → Q → Type 0
 
@@ -33,24 +33,24 @@ telling f r q = f r ≡ q
 abbrev pub holding : {R Q : Type 0} → (Q → R) → Form R Q
 holding f r q = r ≡ f q
 
--- ---- the enums
+-- ---- the answers
 
 -- each case of a verdict; a success carries nothing
 unfoldable pub verdict_reply : Verdict → Reply (Unit {0})
-verdict_reply Verdict.Passed = record { number = 0; place = 0; carried = some tt }
-verdict_reply (Verdict.Refused f) = record { number = f.number; place = f.place; carried = none }
+verdict_reply (Ok u) = record { number = 0; place = 0; carried = some tt }
+verdict_reply (Err f) = record { number = f.number; place = f.place; carried = none }
 
 -- each case of the reader's answer; a success carries the counts
 unfoldable pub reading_reply : Reading → Reply Counts
-reading_reply (Reading.Read n) = record { number = 0; place = 0; carried = some n }
-reading_reply (Reading.Refused f) = record { number = f.number; place = f.place; carried = none }
+reading_reply (Ok n) = record { number = 0; place = 0; carried = some n }
+reading_reply (Err f) = record { number = f.number; place = f.place; carried = none }
 
 -- each case of the answer where a text was to be written; a success carries how many bytes were
 unfoldable pub writing_reply : Writing → Reply ℕ
-writing_reply (Writing.Written k) = record { number = 0; place = 0; carried = some k }
-writing_reply (Writing.Refused f) = record { number = f.number; place = f.place; carried = none }
+writing_reply (Ok k) = record { number = 0; place = 0; carried = some k }
+writing_reply (Err f) = record { number = f.number; place = f.place; carried = none }
 
--- ---- what the entries promise, in any form; under the plain names by the enums
+-- ---- what the entries promise, in any form; under the plain names by the answers
 
 -- a check: that this refuses, if anything
 pub record TellsAs {R : Type 0} (form : Form R (Reply (Unit {0}))) (f : Option Refusal) (r : R) : Type 0 where

@@ -2,12 +2,15 @@
 -- and fills lent tables; tables shorter than the counts give 21, after all its refusals. The writer takes counts and tables;
 -- tables shorter than the counts give 1 [0] before all else, tables whose file the reader would refuse give that refusal, then
 -- a short output 21." Assumes nothing.
-use Rattle.std.specs.Prelude.{ℕ, Bool, List, ◌++◌, map, ℤ, length, drop, leb}
+use Rattle.std.specs.Prelude.{ℕ, Bool, List, ◌++◌, map, ℤ, pos, length, drop, replicate, leb}
 use Rattle.std.proofs.Math.Option.{Option, none, some}
+use Rattle.lambdamix.specs.Limits.{max_types, max_inputs, max_nodes}
 use Rattle.lambdamix.specs.Script.{Script, FunctionType, Node}
 use Rattle.lambdamix.specs.Refusal.{Refusal, or_else, refused_unless}
 use Rattle.script.specs.File.{numbered, head_types, head_inputs, head_nodes, script_in, file_bytes}
 use Rattle.script.specs.Refusals.{script_refusal, file_refusal}
+use Rattle.script.specs.declared.columns.Columns as Lent
+use Rattle.script.specs.declared.tables.ScriptTables as Own
 use Rattle.script.specs.Columns.{types_in, inputs_in, nodes_in, enough}
 
 -- two type columns, the input column, five node columns
@@ -24,6 +27,20 @@ pub record Tables : Type 0 where
 abbrev pub tables_of : List ℕ → List ℕ → List ℕ → List ℕ → List ℕ → List ℕ → List ℕ → List ℤ → Tables
 tables_of ps rs is ks xs ys zs vs =
     record { parameters = ps; results = rs; inputs = is; kinds = ks; a = xs; b = ys; c = zs; values = vs }
+
+-- the tables in the columns that the code takes
+abbrev pub tables_in : Lent.Columns → Tables
+tables_in x =
+    tables_of x.parameters.now x.results.now x.inputs.now x.kinds.now x.a.now x.b.now x.c.now x.values.now
+
+-- the tables in the code's own columns, and the ones that hold zeros: 64 types, 16 inputs and 4,096 nodes
+abbrev pub tables_held : Own.ScriptTables → Tables
+tables_held x = tables_of x.parameters x.results x.inputs x.kinds x.a x.b x.c x.values
+
+unfoldable pub blank_tables : Tables
+blank_tables =
+    tables_of (replicate max_types 0) (replicate max_types 0) (replicate max_inputs 0) (replicate max_nodes 0) (replicate max_nodes 0)
+    (replicate max_nodes 0) (replicate max_nodes 0) (replicate max_nodes (pos 0))
 
 unfoldable pub row_type : Tables → ℕ → FunctionType
 row_type x j = types_in x.parameters x.results j

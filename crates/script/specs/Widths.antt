@@ -5,6 +5,10 @@ use Rattle.lambdamix.specs.Arithmetic.{Fits32}
 use Rattle.lambdamix.specs.Script.{FunctionType, Node}
 use Rattle.script.specs.Tables.{Tables, row_type, row_input, row_node}
 
+-- every number of the list, and what is read past its end, is below this
+abbrev pub AllBelow : ℕ → List ℕ → Type 0
+AllBelow b xs = (j : ℕ) → get_or xs j 0 < b
+
 -- every number of the list has 32 bits
 pub record AllFit (zs : List ℤ) : Type 0 where
   pub fits : (j : ℕ) → Fits32 (get_or zs j (pos 0))

@@ -23,14 +23,5 @@ pub fn counts_right(n: Counts) -> bool
     let types = n.types as usize;
     let inputs = n.inputs as usize;
     let nodes = n.nodes as usize;
-    if MAX_TYPES < types {
-        return false;
-    }
-    if MAX_INPUTS < inputs {
-        return false;
-    }
-    if nodes < 1 {
-        return false;
-    }
-    nodes <= MAX_NODES
+    types <= MAX_TYPES && inputs <= MAX_INPUTS && 1 <= nodes && nodes <= MAX_NODES
 }

@@ -4,6 +4,7 @@ ghost use Rattle.script.specs.File.{type_offset, input_offset, node_offset, file
 
 use crate::{Counts, Name, NodeNumber};
 
+// Three layouts, as the file format has them.
 pub fn type_offset(j: u16) -> u32
     ensures { result ≡ type_offset j }
 {
@@ -41,8 +42,5 @@ pub fn file_size(n: Counts) -> usize
 pub fn root(nodes: u16) -> NodeNumber
     ensures { result.0 ≡ nodes - 1 }
 {
-    if 0 < nodes {
-        return NodeNumber(nodes - 1);
-    }
-    NodeNumber(0)
+    NodeNumber(nodes.saturating_sub(1))
 }

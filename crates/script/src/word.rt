@@ -1,20 +1,18 @@
 // A node in one word of 64 bits: packing and unpacking. What the code of a run is made of stands in words alike.
 ghost use Rattle.std.specs.Prelude.{◌≡◌, get_or};
+ghost use Rattle.script.specs.KindRows.{kind_number};
 ghost use Rattle.script.specs.Bytes.{signed32, bits32};
 ghost use Rattle.script.specs.Words.{word, word_kind, word_a, word_b, word_c, word_value, Holds};
 ghost use Rattle.lambdamix.specs.Code.{node};
 
+use crate::column::at;
 use crate::{Name, NodeNumber, TypeNumber};
+use lambdamix::Step;
 
-// Numbers of 16 and of 32 bits are below these, and signed ones of 32 bits below half of the second.
+// Numbers of 16 and of 32 bits are below these.
 pub const LIMIT_16: u64 = 65536;
 
 pub const LIMIT_32: u64 = 4294967296;
-
-pub const SIGNED_LIMIT: u32 = 2147483648;
-
-// What the bits of a negative number are above it.
-const WRAP: i64 = 4294967296;
 
 // The units of a word's kind, of field a and of field b; field c stands lowest.
 const KIND_UNIT: u64 = 281474976710656;
@@ -23,31 +21,30 @@ const A_UNIT: u64 = 4294967296;
 
 const B_UNIT: u64 = 65536;
 
-// The bits of a signed number, and back.
+// The bits of a signed number, and back, under the names of the definitions.
 pub fn bits(z: i32) -> u32
     ensures { result ≡ bits32 z }
 {
-    if z < 0 {
-        ((z as i64) + WRAP) as u32
-    } else {
-        z as u32
-    }
+    z.cast_unsigned()
 }
 
 pub fn signed(n: u32) -> i32
     ensures { result ≡ signed32 n }
 {
-    if n < SIGNED_LIMIT {
-        n as i32
-    } else {
-        ((n as i64) - WRAP) as i32
-    }
+    n.cast_signed()
 }
 
 pub fn word(k: u8, a: u16, b: u16, c: u16) -> u64
     ensures { result ≡ word k a b c }
 {
     KIND_UNIT * (k as u64) + (A_UNIT * (a as u64) + (B_UNIT * (b as u64) + (c as u64)))
+}
+
+// The word of a step with these fields.
+pub fn step_word(step: Step, a: u16, b: u16, c: u16) -> u64
+    ensures { result ≡ word (kind_number step) a b c }
+{
+    word(step as u8, a, b, c)
 }
 
 pub fn kind(w: u64) -> u16
@@ -74,7 +71,7 @@ pub fn field_c(w: u64) -> u16
     (w % LIMIT_16) as u16
 }
 
-// A field whose use is known: a child, a name, a parameter's type.
+// A field whose use is known: a child, a name, a parameter's type. Each has its type, so that none is taken for another.
 pub fn child_a(w: u64) -> NodeNumber
     ensures { result.0 ≡ word_a w }
 {
@@ -111,22 +108,11 @@ pub fn value(w: u64) -> i32
     signed((w % LIMIT_32) as u32)
 }
 
-// A word of a list, 0 past the end.
-pub fn word_at(s: &[u64], i: u16) -> u64
-    ensures { result ≡ get_or s.now i 0 }
-{
-    let k = i as usize;
-    if k < s.len() {
-        return s[k];
-    }
-    0
-}
-
 // The word of a node, 0 past the end.
 pub fn node_word(nodes: &[u64], i: NodeNumber) -> u64
     ensures { result ≡ get_or nodes.now i.0 0 }
 {
-    word_at(nodes, i.0)
+    at(nodes, i.0 as usize, 0)
 }
 
 // The word that holds a node.

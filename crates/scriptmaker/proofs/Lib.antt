@@ -1,4 +1,3 @@
--- What the proofs of several functions use, and demand 3 of the maker for callers in C.
-mod Carrying
+-- Demand 3 of the maker for callers in C and Rust, and bands for them.
 pub mod MakeDemand
 pub mod BandsServe

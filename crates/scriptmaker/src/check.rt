@@ -5,22 +5,26 @@ ghost use Rattle.script.specs.Tables.{tables_of};
 ghost use Rattle.annotation.specs.Checks.{check_refusal};
 ghost use Rattle.scriptmaker.specs.Calls.{check_reply};
 
-use crate::{CheckReply, Counts, counted};
+use crate::{CheckReply, Counts};
 use annotation::check::check;
-use script::Verdict;
+use script::Refusal;
+use script::columns::Columns;
 
-fn reply(v: Verdict) -> CheckReply
-    ensures { result ≡ check_reply (verdict_reply v) }
-{
-    match v {
-        Verdict::Passed => CheckReply {
-            number: 0,
-            place: 0,
-        },
-        Verdict::Refused(f) => CheckReply {
-            number: f.number,
-            place: f.place,
-        },
+impl From<Result<(), Refusal>> for CheckReply {
+    ghost from_gives = { λ v r. r ≡ check_reply (verdict_reply v) };
+
+    #[tactic(auto, unfolding(crate::specs::Calls::check_reply, script::specs::Replies::verdict_reply))]
+    fn from(v: Result<(), Refusal>) -> CheckReply {
+        match v {
+            Ok(()) => CheckReply {
+                number: 0,
+                place: 0,
+            },
+            Err(f) => CheckReply {
+                number: f.number,
+                place: f.place,
+            },
+        }
     }
 }
 
@@ -38,8 +42,7 @@ pub fn scriptmaker_check(
 ) -> CheckReply
     ensures { TellsAs (holding check_reply) (check_refusal n.types n.inputs n.nodes (tables_of parameters.now results.now inputs.now kinds.now a.now b.now c.now values.now)) result }
 {
-    reply(check(
-        counted(n),
+    let columns = Columns {
         parameters,
         results,
         inputs,
@@ -48,5 +51,6 @@ pub fn scriptmaker_check(
         b,
         c,
         values,
-    ))
+    };
+    check(n.into(), &columns).into()
 }

@@ -4,8 +4,8 @@ ghost use Rattle.bands.specs.Calls.{columns_of, MakesBandsAs};
 ghost use Rattle.scriptmaker.specs.Calls.{write_reply};
 
 use crate::WriteReply;
-use crate::write::reply;
 use bands::maker::bands;
+use bands::rows::Rows;
 
 // Columns shorter than the count: 1 [0]; then 30, 31 and 32, each for all rows; then 21 for a short output.
 pub fn scriptmaker_bands(
@@ -17,5 +17,6 @@ pub fn scriptmaker_bands(
 ) -> WriteReply
     ensures { MakesBandsAs (holding write_reply) count (columns_of low.now high.now grade.now) out.old out.new result }
 {
-    reply(bands(count, low, high, grade, out))
+    let rows = Rows { low, high, grade };
+    bands(count, &rows, out).into()
 }

@@ -4,9 +4,9 @@ ghost use Rattle.script.specs.Tables.{tables_of};
 ghost use Rattle.printer.specs.ListCalls.{ListsAs};
 ghost use Rattle.scriptmaker.specs.Calls.{counts_of, write_reply};
 
-use crate::write::reply;
-use crate::{Counts, WriteReply, counted};
+use crate::{Counts, WriteReply};
 use printer::list::list;
+use script::columns::Columns;
 
 // Tables shorter than the counts: 1 [0]; then 3 to 8, then 21; what is not refused is listed.
 pub fn scriptmaker_list(
@@ -23,8 +23,7 @@ pub fn scriptmaker_list(
 ) -> WriteReply
     ensures { ListsAs (holding write_reply) (counts_of n) (tables_of parameters.now results.now inputs.now kinds.now a.now b.now c.now values.now) out.old out.new result }
 {
-    reply(list(
-        counted(n),
+    let columns = Columns {
         parameters,
         results,
         inputs,
@@ -33,6 +32,6 @@ pub fn scriptmaker_list(
         b,
         c,
         values,
-        out,
-    ))
+    };
+    list(n.into(), &columns, out).into()
 }

@@ -7,27 +7,32 @@ ghost use Rattle.specializer.specs.Entry.{MakesAs};
 ghost use Rattle.scriptmaker.specs.Calls.{counts_of, make_reply};
 ghost use Rattle.cells.specs.Room.{stores};
 
-use crate::{Counts, MakeReply, counted};
+use crate::{Counts, MakeReply};
 use lambdamix::Mode;
-use residual::Reply;
+use residual::Made;
+use script::Unfinished;
+use script::columns::Columns;
 use specializer::make::make;
 
-fn reply(r: Reply) -> MakeReply
-    ensures { result ≡ make_reply (replied r) }
-{
-    match r {
-        Reply::Made(steps, nodes) => MakeReply {
-            number: 0,
-            place: 0,
-            steps: steps,
-            nodes: nodes,
-        },
-        Reply::Unmade(f, steps) => MakeReply {
-            number: f.number,
-            place: f.place,
-            steps: steps,
-            nodes: 0,
-        },
+impl From<Result<Made, Unfinished>> for MakeReply {
+    ghost from_gives = { λ v r. r ≡ make_reply (replied v) };
+
+    #[tactic(auto, unfolding(crate::specs::Calls::make_reply, residual::specs::AfterRun::replied, residual::specs::AfterRun::number_in, residual::specs::AfterRun::place_in, residual::specs::AfterRun::steps_in, residual::specs::AfterRun::nodes_in))]
+    fn from(v: Result<Made, Unfinished>) -> MakeReply {
+        match v {
+            Ok(m) => MakeReply {
+                number: 0,
+                place: 0,
+                steps: m.steps,
+                nodes: m.nodes,
+            },
+            Err(u) => MakeReply {
+                number: u.refusal.number,
+                place: u.refusal.place,
+                steps: u.steps,
+                nodes: 0,
+            },
+        }
     }
 }
 
@@ -51,9 +56,7 @@ pub fn scriptmaker_make(
     ensures { MakesAs (holding make_reply) Mode.Making (counts_of n) (tables_of parameters.now results.now inputs.now kinds.now a.now b.now c.now values.now)
         settings.now fuel (stores heap.old codes.old) (stores heap.new codes.new) out.old out.new result }
 {
-    reply(make(
-        Mode::Making,
-        counted(n),
+    let columns = Columns {
         parameters,
         results,
         inputs,
@@ -62,12 +65,18 @@ pub fn scriptmaker_make(
         b,
         c,
         values,
+    };
+    make(
+        Mode::Making,
+        n.into(),
+        &columns,
         settings,
         fuel,
         heap,
         codes,
         out,
-    ))
+    )
+    .into()
 }
 
 // "There is also a bare run, which leaves out refusals 9 to 11 and meets bad marks as stop 27."
@@ -90,9 +99,7 @@ pub fn scriptmaker_bare_run(
     ensures { MakesAs (holding make_reply) Mode.BareRun (counts_of n) (tables_of parameters.now results.now inputs.now kinds.now a.now b.now c.now values.now)
         settings.now fuel (stores heap.old codes.old) (stores heap.new codes.new) out.old out.new result }
 {
-    reply(make(
-        Mode::BareRun,
-        counted(n),
+    let columns = Columns {
         parameters,
         results,
         inputs,
@@ -101,10 +108,16 @@ pub fn scriptmaker_bare_run(
         b,
         c,
         values,
+    };
+    make(
+        Mode::BareRun,
+        n.into(),
+        &columns,
         settings,
         fuel,
         heap,
         codes,
         out,
-    ))
+    )
+    .into()
 }

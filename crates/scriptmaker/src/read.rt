@@ -6,30 +6,33 @@ ghost use Rattle.scriptmaker.specs.Calls.{read_reply};
 
 use crate::{Counts, ReadReply};
 use reading::reader::read;
-use script::Reading;
+use script::Refusal;
 
-fn reply(r: Reading) -> ReadReply
-    ensures { result ≡ read_reply (reading_reply r) }
-{
-    match r {
-        Reading::Read(n) => ReadReply {
-            number: 0,
-            place: 0,
-            counts: Counts {
-                types: n.types,
-                inputs: n.inputs,
-                nodes: n.nodes,
+impl From<Result<script::Counts, Refusal>> for ReadReply {
+    ghost from_gives = { λ v r. r ≡ read_reply (reading_reply v) };
+
+    #[tactic(auto, unfolding(crate::specs::Calls::read_reply, crate::specs::Calls::counts_in, script::specs::Replies::reading_reply))]
+    fn from(v: Result<script::Counts, Refusal>) -> ReadReply {
+        match v {
+            Ok(n) => ReadReply {
+                number: 0,
+                place: 0,
+                counts: Counts {
+                    types: n.types,
+                    inputs: n.inputs,
+                    nodes: n.nodes,
+                },
             },
-        },
-        Reading::Refused(f) => ReadReply {
-            number: f.number,
-            place: f.place,
-            counts: Counts {
-                types: 0,
-                inputs: 0,
-                nodes: 0,
+            Err(f) => ReadReply {
+                number: f.number,
+                place: f.place,
+                counts: Counts {
+                    types: 0,
+                    inputs: 0,
+                    nodes: 0,
+                },
             },
-        },
+        }
     }
 }
 
@@ -48,5 +51,5 @@ pub fn scriptmaker_read(
     ensures { ReadsAs (holding read_reply) file.now (tables_of parameters.old results.old inputs.old kinds.old a.old b.old c.old values.old)
         (tables_of parameters.new results.new inputs.new kinds.new a.new b.new c.new values.new) result }
 {
-    reply(read(file, parameters, results, inputs, kinds, a, b, c, values))
+    read(file, parameters, results, inputs, kinds, a, b, c, values).into()
 }

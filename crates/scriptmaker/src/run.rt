@@ -5,35 +5,50 @@ ghost use Rattle.script.specs.Tables.{tables_of};
 ghost use Rattle.plainrun.specs.Running.{replied, RunsAs};
 ghost use Rattle.scriptmaker.specs.Calls.{counts_of, run_reply};
 
-use crate::{Counts, RunReply, counted};
-use plainrun::Reply;
+use crate::{Counts, RunReply};
 use plainrun::run::run;
+use plainrun::{Finished, Value};
+use script::Unfinished;
+use script::columns::Columns;
 
-fn reply(r: Reply) -> RunReply
-    ensures { result ≡ run_reply (replied r) }
-{
-    match r {
-        Reply::Number(z, steps) => RunReply {
-            number: 0,
-            place: 0,
-            steps: steps,
-            function: 0,
-            value: z,
-        },
-        Reply::Function(steps) => RunReply {
-            number: 0,
-            place: 0,
-            steps: steps,
-            function: 1,
-            value: 0,
-        },
-        Reply::Unfinished(f, steps) => RunReply {
-            number: f.number,
-            place: f.place,
-            steps: steps,
-            function: 0,
-            value: 0,
-        },
+impl From<Result<Finished, Unfinished>> for RunReply {
+    ghost from_gives = { λ v r. r ≡ run_reply (replied v) };
+
+    #[tactic(auto, unfolding(crate::specs::Calls::run_reply, plainrun::specs::Running::replied, plainrun::specs::Running::number_in, plainrun::specs::Running::place_in, plainrun::specs::Running::steps_in, plainrun::specs::Running::function_in, plainrun::specs::Running::value_in))]
+    fn from(v: Result<Finished, Unfinished>) -> RunReply {
+        match v {
+            Ok(
+                Finished {
+                    value: Value::Number(z),
+                    steps,
+                },
+            ) => RunReply {
+                number: 0,
+                place: 0,
+                steps,
+                function: 0,
+                value: z,
+            },
+            Ok(
+                Finished {
+                    value: Value::Function,
+                    steps,
+                },
+            ) => RunReply {
+                number: 0,
+                place: 0,
+                steps,
+                function: 1,
+                value: 0,
+            },
+            Err(u) => RunReply {
+                number: u.refusal.number,
+                place: u.refusal.place,
+                steps: u.steps,
+                function: 0,
+                value: 0,
+            },
+        }
     }
 }
 
@@ -55,8 +70,7 @@ pub fn scriptmaker_run(
     ensures { RunsAs (holding run_reply) (counts_of n) (tables_of parameters.now results.now inputs.now kinds.now a.now b.now c.now values.now)
         numbers.now fuel heap.old heap.new result }
 {
-    reply(run(
-        counted(n),
+    let columns = Columns {
         parameters,
         results,
         inputs,
@@ -65,8 +79,6 @@ pub fn scriptmaker_run(
         b,
         c,
         values,
-        numbers,
-        fuel,
-        heap,
-    ))
+    };
+    run(n.into(), &columns, numbers, fuel, heap).into()
 }

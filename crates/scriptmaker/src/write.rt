@@ -4,24 +4,28 @@ ghost use Rattle.script.specs.Replies.{holding, writing_reply, WritesAs};
 ghost use Rattle.script.specs.Tables.{tables_of};
 ghost use Rattle.scriptmaker.specs.Calls.{counts_of, write_reply};
 
-use crate::{Counts, WriteReply, counted};
+use crate::{Counts, WriteReply};
 use file::writer::write;
-use script::Writing;
+use script::Refusal;
+use script::columns::Columns;
 
-pub(crate) fn reply(r: Writing) -> WriteReply
-    ensures { result ≡ write_reply (writing_reply r) }
-{
-    match r {
-        Writing::Written(k) => WriteReply {
-            number: 0,
-            place: 0,
-            length: k,
-        },
-        Writing::Refused(f) => WriteReply {
-            number: f.number,
-            place: f.place,
-            length: 0,
-        },
+impl From<Result<usize, Refusal>> for WriteReply {
+    ghost from_gives = { λ v r. r ≡ write_reply (writing_reply v) };
+
+    #[tactic(auto, unfolding(crate::specs::Calls::write_reply, crate::specs::Calls::length_in, script::specs::Replies::writing_reply))]
+    fn from(v: Result<usize, Refusal>) -> WriteReply {
+        match v {
+            Ok(k) => WriteReply {
+                number: 0,
+                place: 0,
+                length: k,
+            },
+            Err(f) => WriteReply {
+                number: f.number,
+                place: f.place,
+                length: 0,
+            },
+        }
     }
 }
 
@@ -40,8 +44,7 @@ pub fn scriptmaker_write(
 ) -> WriteReply
     ensures { WritesAs (holding write_reply) (counts_of n) (tables_of parameters.now results.now inputs.now kinds.now a.now b.now c.now values.now) out.old out.new result }
 {
-    reply(write(
-        counted(n),
+    let columns = Columns {
         parameters,
         results,
         inputs,
@@ -50,6 +53,6 @@ pub fn scriptmaker_write(
         b,
         c,
         values,
-        out,
-    ))
+    };
+    write(n.into(), &columns, out).into()
 }

@@ -11,13 +11,10 @@ fn read_some<R: Read>(reader: &mut R, space: &mut [u8]) -> usize
     ensures bound { result ≤ length space.new }
     ensures bytes { Consumes (R.remaining reader.old) (R.remaining reader.new) (take result space.new) }
 {
-    match reader.read(space) {
-        Ok(n) => n,
-        Err(_) => 0,
-    }
+    reader.read(space).unwrap_or(0)
 }
 
-// Reads until the space is full, the input ends or a read fails. How many bytes it put at the start of the space.
+// Reads until the space is full, the input ends or a read fails. How many bytes it put at the start of the space. Each round goes on by what a read gave.
 pub fn read_full<R: Read>(reader: &mut R, space: &mut [u8]) -> usize
     ensures bound { result ≤ length space.new }
     ensures bytes { Consumes (R.remaining reader.old) (R.remaining reader.new) (take result space.new) }
@@ -34,6 +31,7 @@ pub fn read_full<R: Read>(reader: &mut R, space: &mut [u8]) -> usize
 }
 
 // Reads what is left of the input.
+// A `for`, which ends by itself: of a reader that always gives more no measure falls.
 fn drain<R: Read>(reader: &mut R) {
     let mut space = [0u8; MAX_BYTES];
     for _ in 0..u64::MAX {

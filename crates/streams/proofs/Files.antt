@@ -15,7 +15,7 @@ use Rattle.script.specs.declared.Counts.{Counts}
 use Rattle.script.specs.File.{head_types, head_inputs, head_nodes, script_in}
 use Rattle.script.specs.Refusals.{counts_right, script_refusal, file_refusal}
 use Rattle.script.specs.Replies.{head_counts}
-use Rattle.script.specs.Tables.{Tables, tables_refusal, long_enough}
+use Rattle.script.specs.Tables.{Tables, blank_tables, tables_refusal, long_enough}
 use Rattle.script.proofs.RefusalLaws.{neither, pass_over}
 use Rattle.script.proofs.Sound.{in_limits}
 use Rattle.file.proofs.FileLaws.{script_counts, script_passes}
@@ -30,6 +30,11 @@ pub few_inputs : (bs : List ℕ) → file_refusal bs ≡ none → length (script
 few_inputs bs e = omega (arith, (script_counts bs).1, (in_limits _ _ _ (file_counts bs e)).inputs)
 
 -- ---- tables that are long enough for every file
+
+-- those of zeros are
+pub blank_long : {x : Tables} → x ≡ blank_tables → long_enough max_types max_inputs max_nodes x ≡ true
+unfolding blank_tables long_enough enough max_types max_inputs max_nodes
+blank_long e = rw e
 
 lower : {a b : ℕ} (x : ℕ) → a ≤ b → leb b x ≡ true → leb a x ≡ true
 lower {a} {b} x h e = le-leb a x (omega (arith, leb-true b x e))

@@ -1,5 +1,6 @@
 -- An input is answered by its script and what follows it, and a call by its input where the output is long enough. Assumes nothing.
-use Prim.Native.Nat.{ℕ, ◌+◌, ◌-◌, ◌≤◌, ◌<◌, min}
+use Rattle.std.specs.Prelude.{Err, Ok}
+use Prim.Native.Nat.{ℕ, ◌+◌, ◌≤◌, ◌<◌, min}
 use mathlib.Core.Path.{◌≡◌, refl, sym, ◌∙◌, subst}
 use mathlib.Core.Bool.{true}
 use mathlib.Core.List.{List}
@@ -11,7 +12,7 @@ use borrow.Author.Tests.{le-leb, lt-leb}
 use Rattle.lambdamix.specs.Limits.{max_types, max_inputs, max_nodes, max_bytes}
 use Rattle.script.specs.declared.Counts.{Counts}
 use Rattle.script.specs.declared.Refusal as Told
-use Rattle.script.specs.declared.Reading.{Reading}
+use Rattle.script.specs.Answers.{Reading}
 use Rattle.script.specs.Bytes.{byte_at}
 use Rattle.lambdamix.specs.Refusal.{Refusal, refused_unless}
 use Rattle.script.specs.Refusals.{file_refusal}
@@ -21,7 +22,6 @@ use Rattle.script.specs.Tables.{Tables, long_enough, over, written_output}
 use Rattle.script.specs.Replies.{Reads}
 use Rattle.text.specs.Places.{most}
 use Rattle.script.proofs.Rows.{everywhere}
-use Rattle.script.specs.declared.Writing.TheVariants.{Written, Refused}
 use Rattle.streams.specs.Input.{script_length, script_part, settings_part}
 use Rattle.script.specs.Replies.{replying}
 use Rattle.streams.specs.Responds.{output_refusal, Responds}
@@ -56,7 +56,7 @@ pub record TellsRefused (t : Texts) : Type 0 where
 -- ---- the reader's answer
 
 module _ {t : Texts} {x : Tables} {rest out printed : List ℕ} {told : Reading} {r : ℕ} where
-  pub answered_read : {n : Counts} → told ≡ Reading.Read n → AnswersScript t n x rest out printed r → AnswersReading t told x rest out printed r
+  pub answered_read : {n : Counts} → told ≡ Ok n → AnswersScript t n x rest out printed r → AnswersReading t told x rest out printed r
   answered_read o a =
       record {
         refused = λ f q. absurd (refused_not_read (sym q ∙ o));
@@ -64,7 +64,7 @@ module _ {t : Texts} {x : Tables} {rest out printed : List ℕ} {told : Reading}
       }
 
   pub answered_refused :
-      {f : Told.Refusal} → told ≡ Reading.Refused f → Prints (t.refusal f.number f.place) out printed r →
+      {f : Told.Refusal} → told ≡ Err f → Prints (t.refusal f.number f.place) out printed r →
       AnswersReading t told x rest out printed r
   answered_refused {f} o p =
       record {
@@ -72,29 +72,30 @@ module _ {t : Texts} {x : Tables} {rest out printed : List ℕ} {told : Reading}
         read = λ m q. absurd (refused_not_read (sym o ∙ q));
       }
     where
-      same : {g : Told.Refusal} → told ≡ Reading.Refused g → f ≡ g
-      same {g} q = let u : Reading.Refused f ≡ Reading.Refused g = sym o ∙ q in cc
+      same : {g : Told.Refusal} → told ≡ Err g → f ≡ g
+      same {g} q = let u : Err f ≡ Err g = sym o ∙ q in cc
 
 -- ---- the input
 
-module _ (t : Texts) (tells : TellsRefused t) (input : List ℕ) {x y : Tables} {end : ℕ} {told : Reading}
+module _ (t : Texts) (tells : TellsRefused t) (input : List ℕ) {x y : Tables} {end : ℕ} {told : Reading} {script rest : List ℕ}
     (room : long_enough max_types max_inputs max_nodes x ≡ true) (e : end ≡ min (script_length input) (length input))
-    (reads : Reads (take (end - 0) (drop 0 input)) x y told) where
+    (front : script ≡ take end input) (back : rest ≡ drop end input) (reads : Reads script x y told) where
   script_read : Reads (script_part input) x y told
   unfolding script_part
-  script_read = rw (front_part (script_length input) input e) at reads
+  script_read = rw (front ∙ front_part (script_length input) input e) at reads
 
   pub input_answered :
-      {out printed : List ℕ} {last r : ℕ} → last ≡ length input → AllBytes input →
-      AnswersReading t told y (take (last - end) (drop end input)) out printed r → Answers t input out printed r
+      {out printed : List ℕ} {r : ℕ} → AllBytes input → AnswersReading t told y rest out printed r → Answers t input out printed r
   unfolding settings_part
-  input_answered {out} {printed} {last} {r} l all s = record { answers = λ long. go long (file_refusal (script_part input)) refl }
+  input_answered {out} {printed} {r} all s = record { answers = λ long. go long (file_refusal (script_part input)) refl }
     where
       go :
           max_bytes ≤ length out → (f : Option Refusal) → file_refusal (script_part input) ≡ f →
           Prints (t.answer (script_part input) (settings_part input)) out printed r
       go long none g =
-          let a = (rw (back_part (script_length input) input e l) at s).read (head_counts (script_part input)) (passed_read room script_read g) in
+          let a =
+          (rw (back ∙ back_part (script_length input) input e) at s).read (head_counts (script_part input)) (passed_read room script_read g)
+          in
           a.answers (script_part input) (held room script_read (script_bytes input all) g) (left_bytes (script_length input) all) long
       go long (some f) g =
           rw (tells.told (script_part input) (settings_part input) f g)
@@ -103,12 +104,10 @@ module _ (t : Texts) (tells : TellsRefused t) (input : List ℕ) {x y : Tables} 
 -- ---- the call
 
 pub call_answered :
-    {t : Texts} {input out printed : List ℕ} {n : ℕ} → max_bytes ≤ length out → length out < most → Answers t input out printed n →
-    Responds (t.answer (script_part input) (settings_part input)) out printed (Written n)
+    {text out printed : List ℕ} {n : ℕ} → max_bytes ≤ length out → length out < most → Prints text out printed n →
+    Responds text out printed (Ok n)
 unfolding writing_reply replying output_refusal refused_unless written_output
-call_answered {t} {input} {out} {printed} {n} long small a =
-    let text = t.answer (script_part input) (settings_part input) in
-    let p = a.answers long in
+call_answered {text} {out} {printed} {n} long small p =
     let fits : length text ≤ max_bytes = p.short in
     let count : n ≡ length text = omega (arith, p.placed.counted) in
     let written : printed ≡ over text out = p.placed.stands (omega arith) (omega arith) in
@@ -117,8 +116,7 @@ call_answered {t} {input} {out} {printed} {n} long small a =
       output = rw (le-leb max_bytes (length out) long) written;
     }
 
-pub call_short :
-    {f : Told.Refusal} {text out : List ℕ} → f.number ≡ 21 → f.place ≡ 0 → length out < max_bytes → Responds text out out (Refused f)
+pub call_short : {text out : List ℕ} → length out < max_bytes → Responds text out out (Err (record { number = 21; place = 0 }))
 unfolding writing_reply replying output_refusal refused_unless written_output
-call_short {out} p q h =
-    record { reply = rw (lt-leb max_bytes (length out) h, p, q); output = rw (lt-leb max_bytes (length out) h) }
+call_short {out} h =
+    record { reply = rw (lt-leb max_bytes (length out) h); output = rw (lt-leb max_bytes (length out) h) }

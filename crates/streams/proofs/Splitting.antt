@@ -1,18 +1,22 @@
 -- Where the script ends, and how many settings are given, by the tests of the code. Assumes nothing.
-use Prim.Native.Nat.{ℕ, ◌-◌, ◌/◌, ◌%◌, ◌≤◌, ◌<◌, min}
+use Rattle.std.specs.Prelude.{None, Some}
+use Rattle.std.specs.Option.{is_some}
+use Prim.Native.Nat.{ℕ, ◌/◌, ◌%◌, ◌≤◌, min}
 use mathlib.Core.Path.{◌≡◌, refl, sym, ap, ◌∙◌}
-use mathlib.Core.Bool.{Bool, true, false, ◌&&◌}
+use mathlib.Core.Bool.{Bool, true, false, ◌&&◌, not, true≢false}
 use mathlib.Core.List.{List}
 use native.Mathlib.Omega.{arith}
 use lib.IntN.{ℤ}
-use lib.ListN.{length, take, drop, length-drop, drop_of_length-le}
+use lib.ListN.{length, take, drop, drop_of_length-le}
 use lib.Seq.{take_at, take_all}
 use lib.Dec.{leb, ltb, eqb}
 use borrow.Author.Tests.{ltb-true, leb-true, leb-false}
 use Rattle.lambdamix.specs.Refusal.{first_failing}
-use Rattle.script.specs.File.{numbered, head_types, head_inputs, head_nodes, file_length}
+use Rattle.script.specs.File.{numbered, head_types, head_inputs, head_nodes}
 use Rattle.script.specs.Refusals.{head_marked, counts_right, is_none}
 use Rattle.script.specs.Tables.{over}
+use Rattle.script.specs.Answers.{Found}
+use Rattle.script.specs.Verdicts.{found_at}
 use Rattle.script.proofs.Numbered.{length_numbered}
 use Rattle.streams.specs.Input.{head_right, script_length_by, script_length, whole_settings, setting_marked, setting_at}
 use Rattle.streams.specs.Given.{program_settings}
@@ -25,10 +29,13 @@ from_start e = omega arith
 pub end_within : (k n : ℕ) {e : ℕ} → e ≡ min k n → e ≤ n
 end_within k n h = omega arith
 
--- equal counts give one length
-pub same_size :
-    {r a b c x y z : ℕ} → r ≡ file_length a b c → a ≡ x → b ≡ y → c ≡ z → r ≡ file_length x y z
-same_size e p q s = e ∙ rw (p, q, s)
+-- what finds nothing
+pub none_found : (r : Found) {b : Bool} → is_some r ≡ not b → b ≡ is_none (found_at r)
+unfolding is_none found_at
+none_found None {b = true} e = refl
+none_found None {b = false} e = absurd (true≢false (sym e))
+none_found (Some i) {b = true} e = absurd (true≢false e)
+none_found (Some i) {b = false} e = refl
 
 module _ (bs : List ℕ) where
   pub length_by :
@@ -52,10 +59,6 @@ module _ (bs : List ℕ) where
       go true false e = omega arith
       go false w e = omega arith
 
--- a store with too few places is none that is given
-pub given_none : {A : Type 0} {n : ℕ} → n < program_settings → program_settings ≤ n → A
-given_none h l = absurd (omega arith)
-
 pub given_decoded :
     {ws : List ℤ} {count : ℕ} (zs : List ℤ) (rest : List ℕ) → count ≡ given_count rest →
     ws ≡ over (numbered (setting_at rest) 0 count) zs → program_settings ≤ length zs → ws ≡ over (given_settings rest) zs
@@ -65,12 +68,10 @@ given_decoded zs rest e d l = d ∙ ap (λ (k : ℕ). over (numbered (setting_at
 -- the first places of a store that was given the settings hold them
 pub first_given :
     {ws : List ℤ} {count : ℕ} (zs : List ℤ) (rest : List ℕ) → count ≡ given_count rest → program_settings ≤ length zs →
-    (program_settings ≤ length zs → ws ≡ over (given_settings rest) zs) → take (count - 0) (drop 0 ws) ≡ given_settings rest
+    (program_settings ≤ length zs → ws ≡ over (given_settings rest) zs) → take count ws ≡ given_settings rest
 unfolding given_settings over
-first_given {ws} {count} zs rest e l d =
-    let z : count - 0 ≡ count = omega arith in
-    ap (λ (k : ℕ). take k ws) z
-    ∙ ap (take count) (d l)
+first_given {count = count} zs rest e l d =
+    ap (take count) (d l)
     ∙ take_at (numbered (setting_at rest) 0 (given_count rest)) _ count (length_numbered (setting_at rest) 0 (given_count rest) ∙ sym e)
 
 -- ---- parts of a slice
@@ -85,21 +86,15 @@ take_least m l = go (leb m (length l)) refl
         ∙ sym (take_all m l (omega (arith, leb-false m (length l) e)))
 
 -- what stands before a place that is no further than the end
-pub front_part :
-    {A : Type 0} {end : ℕ} (m : ℕ) (l : List A) → end ≡ min m (length l) → take (end - 0) (drop 0 l) ≡ take m l
-front_part {end} m l e =
-    let z : end - 0 ≡ min m (length l) = omega arith in
-    ap (λ (k : ℕ). take k l) z ∙ take_least m l
+pub front_part : {A : Type 0} {end : ℕ} (m : ℕ) (l : List A) → end ≡ min m (length l) → take end l ≡ take m l
+front_part m l e = ap (λ k. take k l) e ∙ take_least m l
 
 -- and what stands behind it
-pub back_part :
-    {A : Type 0} {end last : ℕ} (m : ℕ) (l : List A) → end ≡ min m (length l) → last ≡ length l →
-    take (last - end) (drop end l) ≡ drop m l
-back_part {end} {last} m l e f =
-    take_all (last - end) (drop end l) (rw (length-drop end l) (omega arith)) ∙ ap (λ (k : ℕ). drop k l) e ∙ go (leb m (length l)) refl
+pub back_part : {A : Type 0} {end : ℕ} (m : ℕ) (l : List A) → end ≡ min m (length l) → drop end l ≡ drop m l
+back_part m l e = ap (λ k. drop k l) e ∙ go (leb m (length l)) refl
   where
     go : (b : Bool) → leb m (length l) ≡ b → drop (min m (length l)) l ≡ drop m l
-    go true h = let z : min m (length l) ≡ m = omega (arith, leb-true m (length l) h) in ap (λ (k : ℕ). drop k l) z
+    go true h = let z : min m (length l) ≡ m = omega (arith, leb-true m (length l) h) in ap (λ k. drop k l) z
     go false h =
         drop_of_length-le l {i = min m (length l)} (omega (arith, leb-false m (length l) h))
         ∙ sym (drop_of_length-le l {i = m} (omega (arith, leb-false m (length l) h)))

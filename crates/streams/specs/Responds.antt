@@ -4,7 +4,7 @@ use Rattle.std.specs.Prelude.{ℕ, List, length, leb}
 use Rattle.std.proofs.Math.Option.{Option}
 use Rattle.lambdamix.specs.Limits.{max_bytes}
 use Rattle.lambdamix.specs.Refusal.{Refusal, refused_unless}
-use Rattle.script.specs.declared.Writing.{Writing}
+use Rattle.script.specs.Answers.{Writing}
 use Rattle.script.specs.Replies.{WritesText}
 
 -- "21: output too short [0]": of an output that is too short for some answer

@@ -1,7 +1,8 @@
-// The programs' standard input and output: where the script ends, the settings behind it, and the lines that are printed.
+// The programs' standard input and output: where the script ends, the settings behind it, the lines that are printed, and the room for an answer.
 #![tactic(auto)]
 
 pub mod limits;
 pub mod print;
+pub mod room;
 pub mod settings;
 pub mod split;

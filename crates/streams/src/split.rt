@@ -6,29 +6,22 @@ use reading::marks::marked;
 use reading::reader::head_counts;
 use script::limits::counts_right;
 use script::place::file_size;
-use text::parts::least;
 
 // "the script is as long as its head says; without a right head the whole input is the script"
 fn script_length(input: &[u8]) -> usize
     ensures { result ≡ script_length input.now }
 {
-    let length = input.len();
-    if length < 8 {
-        return length;
+    let n = head_counts(input);
+    if 8 <= input.len() && marked(input, 0, b'H', b'D') && counts_right(n) {
+        file_size(n)
+    } else {
+        input.len()
     }
-    if marked(input, 0, b'H', b'D') {
-        let n = head_counts(input);
-        if counts_right(n) {
-            return file_size(n);
-        }
-        return length;
-    }
-    length
 }
 
 // Where the script ends.
 pub fn script_end(input: &[u8]) -> usize
     ensures { result ≡ min (script_length input.now) (length input.now) }
 {
-    least(script_length(input), input.len())
+    script_length(input).min(input.len())
 }

@@ -1,8 +1,10 @@
 -- Laws of the contents of records: a node by its kind, fields and value, a type record by its parts and pairs, and all records by three
 -- searches. Assumes nothing.
+use Rattle.std.specs.Prelude.{None, Some}
+use Rattle.std.specs.Option.{is_some}
 use Prim.Native.Nat.{ℕ, zero, suc, ◌+◌, ◌<◌, ◌≤◌}
 use mathlib.Core.Path.{◌≡◌, refl, sym, ap, ◌∙◌}
-use mathlib.Core.Bool.{Bool, true, false, ◌&&◌, ◌||◌, and-true}
+use mathlib.Core.Bool.{Bool, true, false, not, ◌&&◌, ◌||◌, and-true}
 use mathlib.Core.List.{List, [], ◌∷◌}
 use mathlib.Core.Option.{Option, some}
 use native.Mathlib.Omega.{arith}
@@ -24,7 +26,7 @@ use Rattle.script.specs.Kinds.{use_of, uses_table}
 use Rattle.script.specs.KindRows.{row_at}
 use Rattle.script.specs.declared.Row.{Row}
 use Rattle.lambdamix.specs.Code.{node}
-use Rattle.script.specs.declared.Found.{Found}
+use Rattle.script.specs.Answers.{Found}
 use Rattle.script.specs.Refusals.{field_right, fields_right, node_fits, is_none, other_pair, type_fits, input_fits, counts_right, refused_record, content_of}
 use Rattle.script.specs.File.{type_offset, input_offset, node_offset}
 use Rattle.script.specs.Tables.{Tables, row_type, row_input, row_node}
@@ -118,6 +120,23 @@ unfolding node_fits
 node_told t n j f h p q r s u g = simp (p, q, r, s, u) at (sym h) ∙ g
 
 -- ---- a type record
+
+-- two pairs differ where their parameters do, and else where their results do
+pub differ_first : (a b : Bool) {r : Bool} → r ≡ not a → r ≡ true → r ≡ not (a && b)
+differ_first true b e f = cc
+differ_first false b e f = e
+
+pub differ_second : (a b : Bool) {r s : Bool} → r ≡ not a → r ≡ false → s ≡ not b → s ≡ not (a && b)
+differ_second true b e f g = g
+differ_second false b e f g = cc
+
+-- a search that finds nothing
+pub nothing_found : (r : Found) {b : Bool} → is_some r ≡ not b → b ≡ is_none (found_at r)
+unfolding is_none found_at
+nothing_found None {b = true} e = refl
+nothing_found None {b = false} e = e
+nothing_found (Some i) {b = true} e = e
+nothing_found (Some i) {b = false} e = refl
 
 module _ (f : ℕ → FunctionType) (j : ℕ) where
   pub wrong_parameter : 2 + j ≤ (f j).parameter → false ≡ type_fits f j

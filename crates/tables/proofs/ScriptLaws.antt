@@ -1,5 +1,6 @@
 -- The script that tables hold has the tables' rows, so the contents of either are refused alike; and where nothing of the contents
 -- is refused, every node is right; which tables are too short. Assumes nothing.
+use Rattle.std.specs.Prelude.{Err, Ok}
 use Prim.Native.Nat.{ℕ, ◌<◌, ◌≤◌}
 use mathlib.Core.Path.{◌≡◌, refl, sym, ap₂, ◌∙◌}
 use mathlib.Core.Bool.{Bool, true, false, not, ◌&&◌}
@@ -8,7 +9,7 @@ use mathlib.Core.Option.{Option, none, some}
 use lib.IntN.{ℤ}
 use lib.ListN.{length}
 use lib.Dec.{leb}
-use borrow.Author.Tests.{leb-true, le-leb, lt-leb}
+use borrow.Author.Tests.{leb-true}
 use native.Mathlib.Omega.{arith}
 use Rattle.lambdamix.specs.Script.{FunctionType, Node, blank_node, node_at}
 use Rattle.lambdamix.specs.Types.{blank_type}
@@ -20,12 +21,12 @@ use Rattle.script.specs.Refusals.{type_fits, input_fits, node_fits, other_pair, 
 use Rattle.script.specs.Tables.{Tables, row_type, row_input, row_node, tables_script, long_enough, tables_refusal, tables_of}
 use Rattle.tables.specs.Contents.{content_in}
 use Rattle.script.specs.Columns.{enough}
+use Rattle.script.specs.declared.columns.Columns as Lent
 use Rattle.script.specs.Words.{Packed}
 use Rattle.walks.specs.Walks.{Structured}
 use Rattle.script.specs.Verdicts.{found_at, refusal_of}
-use Rattle.script.specs.declared.Found.{Found}
+use Rattle.script.specs.Answers.{Found, Verdict}
 use Rattle.script.specs.declared.Refusal as Refused
-use Rattle.script.specs.declared.Verdict.{Verdict}
 use Rattle.tables.specs.PackedTables.{HoldNodes, PackedNodes, PackedTables}
 use Rattle.script.proofs.RefusalLaws.{no_record, passes, neither, not_refused}
 use Rattle.script.proofs.Verdicts.{passed_tells_none}
@@ -113,12 +114,12 @@ module _ (t i n : ℕ) (ps rs is ks xs ys zs : List ℕ) (vs : List ℤ) where
       m.refusal t columns l.some_node l.nodes p
       (nodes_right t i n (row_type columns) (row_input columns) (row_node columns) q.1)
 
-  pub refused_by_content : {v : Verdict} {f : Refused.Refusal} → refusal_of v ≡ content_in t i n columns → v ≡ Verdict.Refused f
-      → refusal_of (Verdict.Refused f) ≡ script_refusal (tables_script t i n columns)
+  pub refused_by_content : {v : Verdict} {f : Refused.Refusal} → refusal_of v ≡ content_in t i n columns → v ≡ Err f
+      → refusal_of (Err f) ≡ script_refusal (tables_script t i n columns)
   unfolding refusal_of or_else
   refused_by_content {v} {f} p q = rw (script_of_tables t i n columns, ← p, q)
 
-  module _ {v : Verdict} (p : refusal_of v ≡ content_in t i n columns) (q : v ≡ Verdict.Passed) {ws : List ℕ}
+  module _ {v : Verdict} (p : refusal_of v ≡ content_in t i n columns) (q : v ≡ (Ok tt)) {ws : List ℕ}
       (k : PackedTables v n columns ws) where
     pub refused_by_structure : (r : Verdict) → Structured ws i n r → refusal_of r ≡ script_refusal (tables_script t i n columns)
     unfolding refusal_of or_else
@@ -128,7 +129,7 @@ module _ (t i n : ℕ) (ps rs is ks xs ys zs : List ℕ) (vs : List ℤ) where
     packed_by_content r = record { nodes = λ e. k.nodes q }
 
 -- a verdict that refuses says nothing of the words
-pub not_packed : {f : Refused.Refusal} {n : ℕ} {x : Tables} {after : List ℕ} → PackedTables (Verdict.Refused f) n x after
+pub not_packed : {f : Refused.Refusal} {n : ℕ} {x : Tables} {after : List ℕ} → PackedTables (Err f) n x after
 not_packed = record { nodes = λ e. let z : ◌≡◌ {A = ℕ} 0 1 = cc in absurd (omega arith) }
 
 -- contents are packed where their search for a bad node found none
@@ -140,46 +141,26 @@ packed_by_search t i p q r e k =
     record { nodes = λ h. k.all (no_record 5 (node_offset t i) (found_at r) (neither _ _ (neither _ _ (passed_tells_none e h)).1).1) }
 
 -- columns that are long enough hold the nodes
-pub long_holds : (t i n ps rs is : ℕ) {ks xs ys zs : List ℕ} {vs : List ℤ} {b : Bool}
-    → b ≡ enough t i n ps rs is (length ks) (length xs) (length ys) (length zs) (length vs) → b ≡ true → HoldNodes n ks xs ys zs vs
+pub long_holds : (t i n : ℕ) (x : Lent.Columns) {b : Bool}
+    → b
+    ≡ enough t i n (length x.parameters.now) (length x.results.now) (length x.inputs.now) (length x.kinds.now) (length x.a.now)
+    (length x.b.now) (length x.c.now) (length x.values.now)
+    → b ≡ true → HoldNodes n x
 unfolding enough
-long_holds t i n ps rs is {ks} {xs} {ys} {zs} {vs} e f =
-    let p = (and_both (leb t ps && leb t rs) _ (sym e ∙ f)).1 in
-    let q = (and_both (leb i is) _ p).1 in
-    let r = and_both (leb n (length ks) && leb n (length xs)) _ q in
-    let u = and_both (leb n (length ks)) (leb n (length xs)) r.0 in
-    let v = and_both (leb n (length ys)) _ r.1 in
-    let w = and_both (leb n (length zs)) (leb n (length vs)) v.1 in
+long_holds t i n x e f =
+    let p = (and_both (leb t (length x.parameters.now) && leb t (length x.results.now)) _ (sym e ∙ f)).1 in
+    let q = (and_both (leb i (length x.inputs.now)) _ p).1 in
+    let r = and_both (leb n (length x.kinds.now) && leb n (length x.a.now)) _ q in
+    let u = and_both (leb n (length x.kinds.now)) (leb n (length x.a.now)) r.0 in
+    let v = and_both (leb n (length x.b.now)) _ r.1 in
+    let w = and_both (leb n (length x.c.now)) (leb n (length x.values.now)) v.1 in
     record {
-      kinds = leb-true n (length ks) u.0;
-      a = leb-true n (length xs) u.1;
-      b = leb-true n (length ys) v.0;
-      c = leb-true n (length zs) w.0;
-      values = leb-true n (length vs) w.1;
+      kinds = leb-true n (length x.kinds.now) u.0;
+      a = leb-true n (length x.a.now) u.1;
+      b = leb-true n (length x.b.now) v.0;
+      c = leb-true n (length x.c.now) w.0;
+      values = leb-true n (length x.values.now) w.1;
     }
-
--- the tests of the lengths, in their order
-module _ (t i n ps rs is ks xs ys zs vs : ℕ) {p : Bool} (e : p ≡ (leb t ps && leb t rs)) where
-  pub short_types : p ≡ false → false ≡ enough t i n ps rs is ks xs ys zs vs
-  unfolding enough
-  short_types f = simp (sym e ∙ f)
-
-  pub short_inputs : p ≡ true → is < i → false ≡ enough t i n ps rs is ks xs ys zs vs
-  unfolding enough
-  short_inputs f h = simp (sym e ∙ f, lt-leb i is h)
-
-  module _ (f : p ≡ true) (h : i ≤ is) {q : Bool} (g : q ≡ (leb n ks && leb n xs)) where
-    pub short_kinds : q ≡ false → false ≡ enough t i n ps rs is ks xs ys zs vs
-    unfolding enough
-    short_kinds k = simp (sym e ∙ f, le-leb i is h, sym g ∙ k)
-
-    pub short_fields : q ≡ true → ys < n → false ≡ enough t i n ps rs is ks xs ys zs vs
-    unfolding enough
-    short_fields k l = simp (sym e ∙ f, le-leb i is h, sym g ∙ k, lt-leb n ys l)
-
-    pub last_test : q ≡ true → n ≤ ys → {r : Bool} → r ≡ (leb n zs && leb n vs) → r ≡ enough t i n ps rs is ks xs ys zs vs
-    unfolding enough
-    last_test k l m = simp (sym e ∙ f, le-leb i is h, sym g ∙ k, le-leb n ys l) m
 
 -- Short tables are refused, others as their script is.
 module _ (t i n : ℕ) (x : Tables) {b : Bool}
@@ -187,7 +168,7 @@ module _ (t i n : ℕ) (x : Tables) {b : Bool}
     b
     ≡ enough t i n (length x.parameters) (length x.results) (length x.inputs) (length x.kinds) (length x.a)
     (length x.b) (length x.c) (length x.values)) where
-  pub tables_short : b ≡ false → refusal_of (Verdict.Refused (record { number = 1; place = 0 })) ≡ tables_refusal t i n x
+  pub tables_short : b ≡ false → refusal_of (Err (record { number = 1; place = 0 })) ≡ tables_refusal t i n x
   unfolding tables_refusal long_enough enough refused_unless or_else refusal_of
   tables_short f = rw (sym e ∙ f)
 

@@ -1,4 +1,4 @@
--- Texts that stand in an output: put at its front byte by byte, put into what remains from a place on, and joined. Assumes
+-- Texts that stand in an output: put at its front, put into what remains from a place on, and joined. Assumes
 -- nothing.
 use Prim.Native.Nat.{ℕ, suc, ◌+◌, ◌-◌, ◌≤◌, ◌<◌, min}
 use mathlib.Core.Path.{◌≡◌, refl, sym, ap, ◌∙◌}
@@ -6,7 +6,7 @@ use mathlib.Core.List.{List, [], ◌∷◌, ◌++◌, append_assoc, append-nil}
 use native.Mathlib.Omega.{arith}
 use native.Mathlib.Numerals.{add-one}
 use lib.ListN.{length, take, drop, set, get_or, length-append, length-take, length-drop, take-append-drop, drop_of_length-le}
-use lib.Seq.{drop-cons, set-append_seam, take_all, take_at, drop_at, drop-drop, take-suc}
+use lib.Seq.{drop-cons, set-append_seam, take_all, take_at, drop_at, drop-drop}
 use Rattle.script.specs.Tables.{over}
 use Rattle.text.specs.Places.{Put, Placed, most}
 
@@ -27,15 +27,6 @@ put_last {s} {x} {y} {z} {k} b p e = record {
     go h =
         rw (p.counted, p.stands (omega arith), drop-cons x (length s) 0 (omega arith), length-append s (b ∷ []), append_assoc s)
         (set-append_seam s (get_or x (length s) 0) (drop (suc (length s)) x) b ∙ rw add-one)
-
--- the next byte of a text
-pub put_next :
-    {x y z : List ℕ} (t : List ℕ) (i : ℕ) → i < length t → Put (take i t) x y i → z ≡ set y i (get_or t i 0) →
-    Put (take (i + 1) t) x z (i + 1)
-put_next t i h p e = rw (← take-suc t i 0 h, ← add-one i) at (put_last (get_or t i 0) p e)
-
-pub put_whole : {t x y : List ℕ} {i : ℕ} → length t ≤ i → Put (take i t) x y i → Put t x y i
-put_whole {t} {i} h p = rw (take_all i t h) at p
 
 -- a letter, then a text from the next place on
 pub put_behind :

@@ -8,15 +8,12 @@ ghost use Rattle.text.specs.Decimals.{PutNumber, PutLong};
 ghost use Rattle.text.specs.Drawing.{NextDigit, one, Draws};
 
 use crate::Decimal;
-use crate::parts::{further, least};
-use script::column::put8;
-use script::word::{LIMIT_32, SIGNED_LIMIT, bits};
+use crate::parts::written_at;
+use script::column::put;
+use script::word::LIMIT_32;
 
 // One, in the units of a fraction.
 const ONE: u64 = LIMIT_32;
-
-// All bits of 32.
-const HIGHEST: u32 = 4294967295;
 
 // Numbers below this, as most are, have five digits at most.
 const SHORT: u32 = 100000;
@@ -30,7 +27,7 @@ fn put_digit(out: &mut [u8], length: usize, digit: u8) -> usize
     if (digit as usize) + length == 0 {
         return length;
     }
-    put8(out, length, 48 + digit);
+    put(out, length, 48 + digit);
     length + 1
 }
 
@@ -41,16 +38,16 @@ fn put_drawn(out: &mut [u8], fraction: u64, rounds: usize) -> Decimal
 {
     let mut rest = fraction;
     let mut length = 0;
-    let mut round = 0;
-    while round < rounds {
+    let mut done = 0;
+    for round in 0..rounds {
         length = put_digit(out, length, (rest / ONE) as u8);
         rest = rest % ONE * 10;
-        round += 1;
+        done = round + 1;
     }
-    put8(out, length, 48 + (rest / ONE) as u8);
+    put(out, length, 48 + (rest / ONE) as u8);
     Decimal {
         length: length + 1,
-        rounds: round,
+        rounds: done,
     }
 }
 
@@ -68,11 +65,11 @@ pub fn put_digits(out: &mut [u8], x: u32) -> Decimal
 pub fn put_prefixed(out: &mut [u8], letter: u8, x: u32) -> Decimal
     ensures { PutNumber (letter ∷ digits x) out.old out.new result }
 {
-    put8(out, 0, letter);
-    let from = least(1, out.len());
+    put(out, 0, letter);
+    let from = out.len().min(1);
     let behind = put_digits(&mut out[from..], x);
     Decimal {
-        length: further(1, behind.length),
+        length: behind.length + 1,
         rounds: behind.rounds,
     }
 }
@@ -82,14 +79,15 @@ pub fn put_prefixed(out: &mut [u8], letter: u8, x: u32) -> Decimal
 pub fn put_decimal(out: &mut [u8], z: i32) -> Decimal
     ensures { PutNumber (decimal z) out.old out.new result }
 {
-    let x = bits(z);
-    if x < SIGNED_LIMIT {
-        return put_digits(out, x);
+    let x = z.unsigned_abs();
+    if z < 0 {
+        return put_prefixed(out, b'-', x);
     }
-    put_prefixed(out, b'-', HIGHEST - x + 1)
+    put_digits(out, x)
 }
 
-// A number of up to 64 bits: one of 32 bits as above, any other behind the digits of its tenth.
+// A number of up to 64 bits: one of 32 bits as above, any other behind the digits of its tenth. A recursion, whose rounds
+// are counted with those of the loop (`PutLong`).
 fn put_long(out: &mut [u8], x: u64) -> Decimal
     ensures { PutLong x out.old out.new result }
 {
@@ -98,34 +96,28 @@ fn put_long(out: &mut [u8], x: u64) -> Decimal
     }
     let front = put_long(out, x / 10);
     let length = front.length;
-    put8(out, length, 48 + (x % 10) as u8);
+    put(out, length, 48 + (x % 10) as u8);
     Decimal {
         length: length + 1,
         rounds: front.rounds + 1,
     }
 }
 
-// The same from a place on, each giving the next place.
+// Numbers from a place on, each giving the next place.
 pub fn digits_at(out: &mut [u8], at: usize, x: u32) -> usize
     ensures { Placed (digits x) at out.old out.new result }
 {
-    let from = least(at, out.len());
-    let r = put_digits(&mut out[from..], x);
-    further(at, r.length)
+    written_at(out, at, |rest| put_digits(rest, x).length)
 }
 
 pub fn decimal_at(out: &mut [u8], at: usize, z: i32) -> usize
     ensures { Placed (decimal z) at out.old out.new result }
 {
-    let from = least(at, out.len());
-    let r = put_decimal(&mut out[from..], z);
-    further(at, r.length)
+    written_at(out, at, |rest| put_decimal(rest, z).length)
 }
 
 pub fn long_at(out: &mut [u8], at: usize, x: u64) -> usize
     ensures { Placed (digits x) at out.old out.new result }
 {
-    let from = least(at, out.len());
-    let r = put_long(&mut out[from..], x);
-    further(at, r.length)
+    written_at(out, at, |rest| put_long(rest, x).length)
 }

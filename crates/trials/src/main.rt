@@ -3,6 +3,8 @@
 // the answer of `benchrun`, bands.bin through bands, with the checker and the plain run on what they make. Each record stands behind its length in four bytes.
 #![tactic(auto)]
 
+ghost use Rattle.std.specs.Prelude.{◌≤◌, length, IfSome};
+
 mod answers;
 mod coins;
 mod makes;
@@ -17,81 +19,74 @@ use std::io::{self, Read};
 use std::rt::Files;
 use streams::limits::MAX_BYTES;
 
-// Which functions the records of a file go through.
-#[derive(Clone, Copy)]
-enum Kind {
-    Scripts,
-    Makes,
-    Inputs,
-    Runs,
-    Readings,
-    Bands,
-}
-
-fn try_record(rt: &impl Print, kind: Kind, k: usize, record: &[u8]) -> io::Result<()> {
-    match kind {
-        Kind::Scripts => scripts::try_script(rt, k, record),
-        Kind::Makes => makes::try_call(rt, k, record),
-        Kind::Inputs => answers::try_making(rt, k, record),
-        Kind::Runs => runs::try_run(rt, k, record),
-        Kind::Readings => answers::try_running(rt, k, record),
-        Kind::Bands => coins::try_call(rt, k, record),
-    }
-}
-
-// The next n bytes of the file are a record. Whether they are there, and the space is long enough.
-fn try_next(
-    rt: &impl Print,
-    kind: Kind,
-    file: &mut impl Read,
-    k: usize,
-    n: usize,
-    space: &mut [u8],
-) -> io::Result<bool> {
-    if space.len() < n {
-        return Ok(false);
-    }
-    if read_full(file, &mut space[..n]) < n {
-        return Ok(false);
-    }
-    try_record(rt, kind, k, &space[..n])?;
-    Ok(true)
-}
-
-// One record of the file, or that there is none left.
-fn next(rt: &impl Print, kind: Kind, file: &mut impl Read, k: usize) -> io::Result<bool> {
-    let mut head = [0u8; 4];
+// Reads the next record of the file into the space; its length. None where the file ends before it does, or the space is too short.
+fn next(file: &mut impl Read, space: &mut [u8]) -> Option<usize>
+    ensures { IfSome result (λ n. n ≤ length space.new) }
+{
+    let mut head = [0; 4];
     if read_full(file, &mut head) < 4 {
-        return Ok(false);
+        return None;
     }
-    let n = reading::bytes::number32(&head, 0) as usize;
-    let mut space = [0u8; MAX_BYTES];
-    try_next(rt, kind, file, k, n, &mut space)
+    let n = u32::from_le_bytes(head) as usize;
+    if space.len() < n || read_full(file, &mut space[..n]) < n {
+        return None;
+    }
+    Some(n)
 }
 
-// All records of an open file.
-fn run_all(rt: &impl Print, kind: Kind, file: &mut impl Read) -> io::Result<()> {
+// All records of an open file through the closure.
+// A `for`, which ends by itself.
+fn run_all<F: Fn(usize, &[u8]) -> io::Result<()>>(
+    file: &mut impl Read,
+    try_record: F,
+) -> io::Result<()>
+    requires { F.IsAlwaysCallable try_record }
+{
+    let mut space = [0; MAX_BYTES];
     for k in 0..1000000 {
-        if !next(rt, kind, file, k)? {
+        let Some(n) = next(file, &mut space) else {
             break;
-        }
+        };
+        try_record(k, &space[..n])?;
     }
     Ok(())
 }
 
-// All records of a file. One that cannot be opened is told of, and the next is run.
-fn run(rt: &(impl Files + Print + Eprint), kind: Kind, path: &str) -> io::Result<()> {
+// All records of a file through the closure. A file that cannot be opened is told of.
+fn run<F: Fn(usize, &[u8]) -> io::Result<()>>(
+    rt: &(impl Files + Print + Eprint),
+    path: &str,
+    try_record: F,
+) -> io::Result<()>
+    requires { F.IsAlwaysCallable try_record }
+{
     match fs::open(rt, path) {
-        Ok(mut file) => run_all(rt, kind, &mut file),
+        Ok(mut file) => run_all(&mut file, try_record),
         Err(e) => eprintln!(rt; "{path}: {e}"),
     }
 }
 
 fn main(rt: HostRuntime) -> io::Result<()> {
-    run(&rt, Kind::Scripts, "scripts.bin")?;
-    run(&rt, Kind::Makes, "makes.bin")?;
-    run(&rt, Kind::Inputs, "inputs.bin")?;
-    run(&rt, Kind::Runs, "runs.bin")?;
-    run(&rt, Kind::Readings, "readings.bin")?;
-    run(&rt, Kind::Bands, "bands.bin")
+    run(
+        &rt,
+        "scripts.bin",
+        |k, record| scripts::try_script(&rt, k, record),
+    )?;
+    run(
+        &rt,
+        "makes.bin",
+        |k, record| makes::try_call(&rt, k, record),
+    )?;
+    run(&rt, "inputs.bin", |k, record| {
+        answers::try_input(&rt, k, record, respond::answer::respond)
+    })?;
+    run(&rt, "runs.bin", |k, record| runs::try_run(&rt, k, record))?;
+    run(&rt, "readings.bin", |k, record| {
+        answers::try_input(&rt, k, record, report::answer::respond)
+    })?;
+    run(
+        &rt,
+        "bands.bin",
+        |k, record| coins::try_call(&rt, k, record),
+    )
 }

@@ -1,18 +1,6 @@
-// A line of numbers, or of bytes.
+// Lines of numbers, or of bytes.
 use std::io;
 use text::decimals::put_decimal;
-
-pub(crate) fn first(rt: &impl Print, k: usize) -> io::Result<()> {
-    print!(rt; "{k}")
-}
-
-pub(crate) fn blank(rt: &impl Print) -> io::Result<()> {
-    rt.write_all(b" ")
-}
-
-pub(crate) fn next(rt: &impl Print, x: usize) -> io::Result<()> {
-    print!(rt; " {x}")
-}
 
 // The first n bytes of a text.
 pub(crate) fn bytes(rt: &impl Print, text: &[u8], n: usize) -> io::Result<()> {
@@ -22,18 +10,36 @@ pub(crate) fn bytes(rt: &impl Print, text: &[u8], n: usize) -> io::Result<()> {
     Ok(())
 }
 
+// Numbers behind a first one, with a space before each.
+pub(crate) fn numbers(rt: &impl Print, first: usize, others: &[usize]) -> io::Result<()> {
+    print!(rt; "{first}")?;
+    for x in others {
+        print!(rt; " {x}")?;
+    }
+    Ok(())
+}
+
 pub(crate) fn signed(rt: &impl Print, z: i32) -> io::Result<()> {
-    let mut space = [0u8; 12];
+    let mut space = [0; 12];
     let written = put_decimal(&mut space, z);
-    blank(rt)?;
+    print!(rt; " ")?;
     bytes(rt, &space, written.length)
 }
 
-// Two hexadecimal digits.
-pub(crate) fn byte(rt: &impl Print, x: u8) -> io::Result<()> {
-    print!(rt; "{x:02x}")
+// Two hexadecimal digits for each of the first n bytes.
+pub(crate) fn hexadecimal(rt: &impl Print, file: &[u8], n: usize) -> io::Result<()> {
+    for x in file.iter().take(n) {
+        print!(rt; "{x:02x}")?;
+    }
+    end(rt)
 }
 
 pub(crate) fn end(rt: &impl Print) -> io::Result<()> {
     rt.write_all(b"\n")
+}
+
+// Numbers on a line of their own.
+pub(crate) fn line(rt: &impl Print, first: usize, others: &[usize]) -> io::Result<()> {
+    numbers(rt, first, others)?;
+    end(rt)
 }

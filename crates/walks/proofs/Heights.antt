@@ -1,6 +1,6 @@
 -- The walk of heights, as the code takes it: a height within the limit or the lowest node that is too high, in one number.
 -- Assumes nothing.
-use Prim.Native.Nat.{ℕ, zero, suc, ◌+◌, ◌-◌, ◌≤◌, ◌<◌, max}
+use Prim.Native.Nat.{ℕ, zero, suc, ◌+◌, ◌-◌, ◌≤◌, ◌<◌, min, max}
 use mathlib.Core.Path.{◌≡◌, refl, sym, ap, ◌∙◌}
 use mathlib.Core.Bool.{Bool, true, false}
 use mathlib.Core.List.{List, [], ◌∷◌}
@@ -160,17 +160,32 @@ second_place {h = h} {g = g} l k (over_limit {j = i} e a c) (over_limit {j = j} 
     rw (lowest_second i j (omega arith)) (over_limit {h = max h g} f (omega arith) d)
 
 module _ {p q : ℕ} where
-  pub join_second : p < q → p ≤ max_height → HeightJoin p q q
+  join_second : p < q → p ≤ max_height → HeightJoin p q q
   join_second l k = record { joined = λ h g t u. after_height (omega arith) k }
 
-  pub join_first : q ≤ p → q ≤ max_height → HeightJoin p q p
+  join_first : q ≤ p → q ≤ max_height → HeightJoin p q p
   join_first l k = record { joined = λ h g t u. before_height l k }
 
-  pub join_places_first : p < q → max_height < p → HeightJoin p q p
+  join_places_first : p < q → max_height < p → HeightJoin p q p
   join_places_first l k = record { joined = λ h g t u. first_place l k }
 
-  pub join_places_second : q ≤ p → max_height < q → HeightJoin p q q
+  join_places_second : q ≤ p → max_height < q → HeightJoin p q q
   join_places_second l k = record { joined = λ h g t u. second_place l k }
+
+  -- the higher number where one is a height, else the lower
+  pub join_heights : {r : ℕ} → r ≡ max p q → min p q ≤ max_height → HeightJoin p q r
+  join_heights {r} e k = by (ltb p q) refl
+    where
+      by : (b : Bool) → ltb p q ≡ b → HeightJoin p q r
+      by true f = let l = ltb-true p q f in let m : r ≡ q = omega arith in rw m (join_second l (omega arith))
+      by false f = let l = ltb-false p q f in let m : r ≡ p = omega arith in rw m (join_first l (omega arith))
+
+  pub join_places : {r : ℕ} → r ≡ min p q → max_height < r → HeightJoin p q r
+  join_places {r} e k = by (ltb p q) refl
+    where
+      by : (b : Bool) → ltb p q ≡ b → HeightJoin p q r
+      by true f = let l = ltb-true p q f in let m : r ≡ p = omega arith in rw m (join_places_first l (omega arith))
+      by false f = let l = ltb-false p q f in let m : r ≡ q = omega arith in rw m (join_places_second l (omega arith))
 
 -- ---- a node over the answer of its children
 

@@ -1,5 +1,5 @@
 -- The row that a walk reads at a node in a word: that of its kind, and past the table none. Assumes nothing.
-use Prim.Native.Nat.{ℕ}
+use Prim.Native.Nat.{ℕ, ◌≤◌}
 use mathlib.Core.Path.{◌≡◌, sym, ap, ◌∙◌}
 use mathlib.Core.List.{[]}
 use Rattle.lambdamix.specs.declared.Use.TheVariants.{Nothing}
@@ -7,7 +7,7 @@ use Rattle.script.specs.declared.Row.{Row}
 use Rattle.script.specs.KindRows.{row_at}
 use Rattle.script.specs.Words.{word_kind, word_a, word_b, word_c}
 use Rattle.walks.specs.Walks.{kept_if, row_children, word_children}
-use Rattle.script.proofs.TableLaws.{Other, past, past_rows}
+use Rattle.script.proofs.TableLaws.{past_rows}
 
 module _ (w : ℕ) {k : ℕ} (kind : k ≡ word_kind w) where
   module _ {m : ℕ} {r : Row} (read : r ≡ row_at m) (same : k ≡ m) where
@@ -18,10 +18,10 @@ module _ (w : ℕ) {k : ℕ} (kind : k ≡ word_kind w) where
     unfolding word_children
     own_children = rw own_row
 
-  pub no_row : Other k 13 → row_at (word_kind w) ≡ record { 0 = Nothing; 1 = Nothing; 2 = Nothing }
+  pub no_row : 13 ≤ k → row_at (word_kind w) ≡ record { 0 = Nothing; 1 = Nothing; 2 = Nothing }
   unfolding row_at
-  no_row o = let h = past k 13 o in rw (← kind, past_rows k 0 h, past_rows k 1 h, past_rows k 2 h)
+  no_row h = rw (← kind, past_rows k 0 h, past_rows k 1 h, past_rows k 2 h)
 
-  pub no_children : Other k 13 → word_children w ≡ []
+  pub no_children : 13 ≤ k → word_children w ≡ []
   unfolding word_children row_children kept_if
-  no_children o = rw (no_row o)
+  no_children h = rw (no_row h)

@@ -10,7 +10,7 @@ use Rattle.lambdamix.specs.Refusal.{first_by}
 use Rattle.lambdamix.specs.Structure.{occurrences, lowest, member, unless_bound, structure_refusal}
 use Rattle.script.specs.Kinds.{is_binder, is_child}
 use Rattle.script.specs.declared.Row.{Row}
-use Rattle.script.specs.declared.Verdict.{Verdict}
+use Rattle.script.specs.Answers.{Verdict}
 use Rattle.script.specs.KindRows.{row_at}
 use Rattle.script.specs.Refusals.{node_fits}
 use Rattle.script.specs.Tables.{Tables, row_node, tables_script}

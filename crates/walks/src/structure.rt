@@ -2,7 +2,7 @@
 // has a binder or is an input. The walks go down from the root, from a node to its children, whose numbers are below. What a
 // field holds is told by the table's row of the node's kind; each arm of a walk's match reads the row of the kind that it names, so
 // that the compiler folds the read, and hands it to one function, which goes field by field. A place is a node's number or NOWHERE.
-ghost use Rattle.std.specs.Prelude.{◌≡◌, false, [], ◌∷◌, min, ◌≤◌, ◌<◌, ◌+◌, ◌-◌, get_or, length, eqb};
+ghost use Rattle.std.specs.Prelude.{◌≡◌, false, [], ◌∷◌, ◌≤◌, ◌<◌, ◌+◌, ◌-◌, get_or, length, eqb};
 ghost use Rattle.std.proofs.Math.Option.{none};
 ghost use Rattle.lambdamix.specs.Limits.{max_nodes, max_height};
 ghost use Rattle.lambdamix.specs.Falling.{below};
@@ -14,25 +14,28 @@ ghost use Rattle.script.specs.Words.{word_a, word_b, word_c, columns_in};
 ghost use Rattle.walks.specs.Walks.{kept_if, row_children, word_children, uses_below, used_once_at, Counted, height_at, too_high_at, height_over, Height, HeightOver, HeightJoin, HeightNode, unbound_name, unbound_field, unbound_by, unbound_below, unbound_at, innermost, Entered, levels_in, input_count_in, Lower, Scoped, Structured};
 
 use lambdamix::Use;
-use script::column::{at8, put8};
-use script::kinds::{is_binder, is_child, row_of};
+use script::cause::Cause;
+use script::column::{at, put};
+use script::kinds::{is_binder, is_child};
 use script::limits::{FEW_NODES, MAX_HEIGHT, MAX_NODES};
+use script::search::first_failing;
 use script::word::{field_a, field_b, field_c, kind, node_word};
-use script::{Found, Name, NodeNumber, Refusal, Row, Verdict};
+use script::{Name, NodeNumber, Refusal, Row, by_kind};
 
 // The highest tree.
 const HIGHEST: u32 = MAX_HEIGHT as u32;
 
 // The places that a search for unbound variables answers with: none, that the tree has too many levels, and any other stands one higher than it is.
+// One number, since an enum would go through memory at each call: docs/SPEED.md, 2 and 9.
 const NOWHERE: u16 = 65535;
 
 const TOO_HIGH: u16 = 0;
 
 // A level, above the number of inputs: a search is handed in one number how many levels are allowed below a node and how many inputs there are, so that
-// all that it takes travels in registers.
+// all that it takes travels in registers: docs/SPEED.md, 9.
 const LEVEL: u32 = 65536;
 
-// How many of the names around a node are looked at together.
+// How many of the names around a node are looked at together: docs/SPEED.md, 10.
 const STRIDE: usize = 32;
 
 // One more use of a node, counted up to two.
@@ -40,9 +43,9 @@ fn count_one(counts: &mut [u8], m: NodeNumber)
     ensures { Counted (λ j. occurrences j (m.0 ∷ [])) counts.old counts.new }
 {
     let i = m.0 as usize;
-    let n = at8(counts, i);
+    let n = at(counts, i, 0);
     if n < 2 {
-        put8(counts, i, n + 1);
+        put(counts, i, n + 1);
     }
 }
 
@@ -59,89 +62,65 @@ fn count_field(counts: &mut [u8], u: Use, m: u16)
 fn count_fields(counts: &mut [u8], w: u64, row: Row)
     ensures { Counted (λ j. occurrences j (row_children row (word_a w) (word_b w) (word_c w))) counts.old counts.new }
 {
-    let u = row.0;
-    let v = row.1;
-    let t = row.2;
+    let Row(u, v, t) = row;
     count_field(counts, u, field_a(w));
     count_field(counts, v, field_b(w));
     count_field(counts, t, field_c(w));
 }
 
-// The children of a node, each counted once, by the row of its kind.
+// The children of a node, each counted once, by the row of its kind. An arm for each kind: docs/SPEED.md, 7.
+#[tactic(auto, unfolding(crate::specs::Walks::word_children))]
 fn count_node(counts: &mut [u8], w: u64)
     ensures { Counted (λ j. occurrences j (word_children w)) counts.old counts.new }
 {
-    match kind(w) {
-        0 => count_fields(counts, w, row_of(0)),
-        1 => count_fields(counts, w, row_of(1)),
-        2 => count_fields(counts, w, row_of(2)),
-        3 => count_fields(counts, w, row_of(3)),
-        4 => count_fields(counts, w, row_of(4)),
-        5 => count_fields(counts, w, row_of(5)),
-        6 => count_fields(counts, w, row_of(6)),
-        7 => count_fields(counts, w, row_of(7)),
-        8 => count_fields(counts, w, row_of(8)),
-        9 => count_fields(counts, w, row_of(9)),
-        10 => count_fields(counts, w, row_of(10)),
-        11 => count_fields(counts, w, row_of(11)),
-        12 => count_fields(counts, w, row_of(12)),
-        _ => {}
-    }
+    by_kind!(kind(w), count_fields(counts, w), {})
 }
 
 fn count_nodes(nodes: &[u64], counts: &mut [u8], count: u16)
     ensures { Counted (uses_below (columns_in nodes.now) count) counts.old counts.new }
 {
-    let mut i = 0;
-    while i < count {
+    for i in 0..count {
         count_node(counts, node_word(nodes, NodeNumber(i)));
-        i += 1;
     }
 }
 
 // The first of the n nodes whose count is not one.
-fn first_not_one(counts: &[u8], n: usize) -> Found
+fn first_not_one(counts: &[u8], n: usize) -> Option<usize>
     ensures { found_at result ≡ first_failing (λ j. eqb (get_or counts.now j 0) 1) 0 n }
 {
-    let mut j = 0;
-    while j < n {
-        if at8(counts, j) != 1 {
-            return Found::At(j);
-        }
-        j += 1;
-    }
-    Found::Nowhere
+    first_failing(n, |j| at(counts, j, 0) == 1)
 }
 
-// Refusal 6: the first node but the root that is used never or twice.
-fn first_misused(nodes: &[u64], count: u16) -> Found
+// The first node but the root that is used never or twice, by counts of at most N nodes.
+#[tactic(auto, unfolding(lambdamix::specs::Limits::max_nodes))]
+fn first_misused_of<const N: usize>(nodes: &[u64], count: u16) -> Option<usize>
+    requires count_le_N { (1 ≤ count) × (count ≤ N) }
+    requires N_le_max_nodes { N ≤ max_nodes }
+    ensures { found_at result ≡ first_failing (used_once_at (columns_in nodes.now) count) 0 (count - 1) }
+{
+    let mut counts = [0u8; N];
+    count_nodes(nodes, &mut counts, count);
+    first_not_one(&counts, (count - 1) as usize)
+}
+
+// Refusal 6. Few nodes have short counts: docs/SPEED.md, 2.
+#[tactic(auto, unfolding(lambdamix::specs::Limits::max_nodes))]
+fn first_misused(nodes: &[u64], count: u16) -> Option<usize>
     requires { (1 ≤ count) × (count ≤ max_nodes) }
     ensures { found_at result ≡ first_failing (used_once_at (columns_in nodes.now) count) 0 (count - 1) }
 {
     if (count as usize) <= FEW_NODES {
-        let mut counts = [0u8; FEW_NODES];
-        count_nodes(nodes, &mut counts, count);
-        return first_not_one(&counts, (count - 1) as usize);
+        return first_misused_of::<FEW_NODES>(nodes, count);
     }
-    let mut counts = [0u8; MAX_NODES];
-    count_nodes(nodes, &mut counts, count);
-    first_not_one(&counts, (count - 1) as usize)
+    first_misused_of::<MAX_NODES>(nodes, count)
 }
 
 // The answers of two walks of heights: the higher height, or the lower place.
 fn height_join(p: u32, q: u32) -> u32
     ensures { HeightJoin p q result }
 {
-    if p < q {
-        if p <= HIGHEST {
-            return q;
-        }
-        return p;
-    }
-    if q <= HIGHEST {
-        return p;
-    }
-    q
+    let least = p.min(q);
+    if least <= HIGHEST { p.max(q) } else { least }
 }
 
 // Node i over what was answered of its children.
@@ -152,15 +131,13 @@ fn height_over(i: NodeNumber, p: u32) -> u32
         return p + 1;
     }
     let own = HIGHEST + 1 + (i.0 as u32);
-    if HIGHEST < p {
-        if p < own {
-            return p;
-        }
+    if HIGHEST < p && p < own {
+        return p;
     }
     own
 }
 
-// The height of node i's tree if no node of it is too high, else HIGHEST + 1 plus the lowest node that is.
+// The height of node i's tree if no node of it is too high, else HIGHEST + 1 plus the lowest node that is. One number: docs/SPEED.md, 2.
 #[cycle(heights)]
 fn height(nodes: &&[u64], i: NodeNumber) -> u32
     ensures { Height result (height_at (columns_in nodes.now.now) i.0) (too_high_at (columns_in nodes.now.now) i.0) }
@@ -169,27 +146,13 @@ fn height(nodes: &&[u64], i: NodeNumber) -> u32
     height_over(i, p)
 }
 
-// The children of node i, whose word is w, by the row of its kind.
+// The children of node i, whose word is w, by the row of its kind. An arm for each kind: docs/SPEED.md, 7.
 #[cycle(heights)]
+#[tactic(auto, unfolding(crate::specs::Walks::word_children))]
 fn height_children(nodes: &&[u64], i: NodeNumber, w: u64) -> u32
     ensures { HeightOver (columns_in nodes.now.now) i.0 (word_children w) result }
 {
-    match kind(w) {
-        0 => height_fields(nodes, i, w, row_of(0)),
-        1 => height_fields(nodes, i, w, row_of(1)),
-        2 => height_fields(nodes, i, w, row_of(2)),
-        3 => height_fields(nodes, i, w, row_of(3)),
-        4 => height_fields(nodes, i, w, row_of(4)),
-        5 => height_fields(nodes, i, w, row_of(5)),
-        6 => height_fields(nodes, i, w, row_of(6)),
-        7 => height_fields(nodes, i, w, row_of(7)),
-        8 => height_fields(nodes, i, w, row_of(8)),
-        9 => height_fields(nodes, i, w, row_of(9)),
-        10 => height_fields(nodes, i, w, row_of(10)),
-        11 => height_fields(nodes, i, w, row_of(11)),
-        12 => height_fields(nodes, i, w, row_of(12)),
-        _ => 0,
-    }
+    by_kind!(kind(w), height_fields(nodes, i, w), 0)
 }
 
 // The fields that are children by a row.
@@ -197,9 +160,7 @@ fn height_children(nodes: &&[u64], i: NodeNumber, w: u64) -> u32
 fn height_fields(nodes: &&[u64], i: NodeNumber, w: u64, row: Row) -> u32
     ensures { HeightOver (columns_in nodes.now.now) i.0 (row_children row (word_a w) (word_b w) (word_c w)) result }
 {
-    let u = row.0;
-    let v = row.1;
-    let t = row.2;
+    let Row(u, v, t) = row;
     let p = height_field(nodes, i, u, field_a(w));
     let q = height_field(nodes, i, v, field_b(w));
     height_join(p, height_join(q, height_field(nodes, i, t, field_c(w))))
@@ -227,30 +188,18 @@ fn height_child(nodes: &&[u64], i: NodeNumber, m: NodeNumber) -> u32
     1
 }
 
-// The end of the next names that are looked at together.
-fn stride_end(d: usize, depth: usize) -> usize
-    requires { d < depth }
-    ensures { (d < result) × (result ≤ depth) }
-{
-    if depth - d < STRIDE {
-        return depth;
-    }
-    d + STRIDE
-}
-
-// Whether a name is among the first `end` of a list, where it is not among the first `from`: each of the others is looked at, without a branch.
+// Whether a name is among the first `end` of a list, where it is not among the first `from`: each of the others is looked at, without a branch, where
+// `contains` would have one for each: docs/SPEED.md, 10.
 fn is_among(names: &[u16; MAX_HEIGHT], from: usize, end: usize, x: Name) -> bool
     requires from_le_end { (from ≤ end) × (end ≤ max_height) }
     requires false_value { false ≡ member x.0 (innermost names.now from) }
     ensures { result ≡ member x.0 (innermost names.now end) }
 {
     let mut found = false;
-    let mut d = from;
-    while d < end {
+    for d in from..end {
         if names[d] == x.0 {
             found = true;
         }
-        d += 1;
     }
     found
 }
@@ -260,25 +209,12 @@ fn is_bound(names: &[u16; MAX_HEIGHT], depth: usize, x: Name) -> bool
     requires { depth ≤ max_height }
     ensures { result ≡ member x.0 (innermost names.now depth) }
 {
-    let mut d = 0;
-    while d < depth {
-        let end = stride_end(d, depth);
-        if is_among(names, d, end, x) {
+    for d in (0..depth).step_by(STRIDE) {
+        if is_among(names, d, depth.min(d + STRIDE), x) {
             return true;
         }
-        d = end;
     }
     false
-}
-
-// The lower of two places.
-fn lower(p: u16, q: u16) -> u16
-    ensures { result ≡ min p q }
-{
-    if q < p {
-        return q;
-    }
-    p
 }
 
 // The lower of a place and node i, if its name is no input's and has no binder.
@@ -293,13 +229,10 @@ fn scope_name(
     requires { (depth ≤ max_height) × (i.0 < 65534) }
     ensures { Lower lowest (unbound_name (input_count_in limits) (innermost names.now depth) x.0 i.0) result }
 {
-    if (x.0 as u32) < limits % LEVEL {
+    if (x.0 as u32) < limits % LEVEL || is_bound(names, depth, x) {
         return lowest;
     }
-    if is_bound(names, depth, x) {
-        return lowest;
-    }
-    lower(lowest, i.0 + 1)
+    lowest.min(i.0 + 1)
 }
 
 // A binder's name is put after those around it. How many names are around the children.
@@ -317,6 +250,7 @@ fn put_binder(names: &mut [u16; MAX_HEIGHT], depth: usize, u: Use, f: u16) -> us
 }
 
 // The lower of a place and the lowest unbound variable of node i's tree, by the row of its kind, if the tree has no more levels than are allowed.
+// An arm for each kind: docs/SPEED.md, 7.
 #[cycle(scopes)]
 fn scope(
     nodes: &&[u64],
@@ -331,22 +265,11 @@ fn scope(
     ensures { Scoped (height_at (columns_in nodes.now.now) i.0) (levels_in limits + 1) (unbound_at (columns_in nodes.now.now) (input_count_in limits) i.0 (innermost names.old depth)) depth lowest names.old names.new result }
 {
     let w = node_word(*nodes, i);
-    match kind(w) {
-        0 => scope_fields(nodes, limits, names, depth, lowest, i, w, row_of(0)),
-        1 => scope_fields(nodes, limits, names, depth, lowest, i, w, row_of(1)),
-        2 => scope_fields(nodes, limits, names, depth, lowest, i, w, row_of(2)),
-        3 => scope_fields(nodes, limits, names, depth, lowest, i, w, row_of(3)),
-        4 => scope_fields(nodes, limits, names, depth, lowest, i, w, row_of(4)),
-        5 => scope_fields(nodes, limits, names, depth, lowest, i, w, row_of(5)),
-        6 => scope_fields(nodes, limits, names, depth, lowest, i, w, row_of(6)),
-        7 => scope_fields(nodes, limits, names, depth, lowest, i, w, row_of(7)),
-        8 => scope_fields(nodes, limits, names, depth, lowest, i, w, row_of(8)),
-        9 => scope_fields(nodes, limits, names, depth, lowest, i, w, row_of(9)),
-        10 => scope_fields(nodes, limits, names, depth, lowest, i, w, row_of(10)),
-        11 => scope_fields(nodes, limits, names, depth, lowest, i, w, row_of(11)),
-        12 => scope_fields(nodes, limits, names, depth, lowest, i, w, row_of(12)),
-        _ => lowest,
-    }
+    by_kind!(
+        kind(w),
+        scope_fields(nodes, limits, names, depth, lowest, i, w),
+        lowest
+    )
 }
 
 // The fields by a row: a binder's name is around the children after it.
@@ -365,9 +288,7 @@ fn scope_fields(
     requires limits_bound { depth + 1 + levels_in limits ≤ max_height }
     ensures { Scoped (height_over (columns_in nodes.now.now) i.0 (row_children row (word_a w) (word_b w) (word_c w))) (levels_in limits) (unbound_by (input_count_in limits) (unbound_below (columns_in nodes.now.now) (input_count_in limits) i.0) i.0 (innermost names.old depth) row (word_a w) (word_b w) (word_c w)) depth lowest names.old names.new result }
 {
-    let u = row.0;
-    let v = row.1;
-    let t = row.2;
+    let Row(u, v, t) = row;
     let a = field_a(w);
     let inner = put_binder(names, depth, u, a);
     let p = scope_field(nodes, limits, names, inner, lowest, i, u, a);
@@ -394,10 +315,7 @@ fn scope_field(
     match u {
         Use::Name => scope_name(names, depth, limits, lowest, i, Name(f)),
         Use::Child => scope_child(nodes, limits, names, depth, lowest, i, NodeNumber(f)),
-        Use::Nothing => lowest,
-        Use::Binder => lowest,
-        Use::ParameterType => lowest,
-        Use::Operation => lowest,
+        Use::Nothing | Use::Binder | Use::ParameterType | Use::Operation => lowest,
     }
 }
 
@@ -426,7 +344,7 @@ fn scope_child(
 }
 
 // Refusals 7 and 8, after 6: a search that meets too many levels is followed by the walk of heights.
-fn tree_refusal(nodes: &[u64], inputs: u16, root: NodeNumber) -> Verdict
+fn tree_refusal(nodes: &[u64], inputs: u16, root: NodeNumber) -> Result<(), Refusal>
     requires { root.0 < 65534 }
     ensures { refusal_of result ≡ or_else (refused_at 7 (too_high_at (columns_in nodes.now) root.0)) (refused_at 8 (unbound_at (columns_in nodes.now) inputs root.0 [])) }
 {
@@ -434,38 +352,25 @@ fn tree_refusal(nodes: &[u64], inputs: u16, root: NodeNumber) -> Verdict
     let limits = LEVEL * (HIGHEST - 1) + (inputs as u32);
     let place = scope(&nodes, limits, &mut names, 0, NOWHERE, root);
     if place == NOWHERE {
-        return Verdict::Passed;
+        return Ok(());
     }
     if place == TOO_HIGH {
         let height = height(&nodes, root);
-        return Verdict::Refused(Refusal {
-            number: 7,
-            place: (height - (HIGHEST + 1)) as usize,
-        });
+        return Err(Cause::TreeTooHigh.at((height - (HIGHEST + 1)) as usize));
     }
-    Verdict::Refused(Refusal {
-        number: 8,
-        place: (place - 1) as usize,
-    })
+    Err(Cause::UnboundVariable.at((place - 1) as usize))
 }
 
 // Refusals 6, 7 and 8 of as many nodes, each of which fits; what it answers of other words says nothing.
-pub fn structure_refusal(nodes: &[u64], inputs: u16, count: usize) -> Verdict
+pub fn structure_refusal(nodes: &[u64], inputs: u16, count: usize) -> Result<(), Refusal>
     ensures { Structured nodes.now inputs count result }
 {
-    if count < 1 {
-        return Verdict::Passed;
-    }
-    if MAX_NODES < count {
-        return Verdict::Passed;
+    if count < 1 || MAX_NODES < count {
+        return Ok(());
     }
     let n = count as u16;
-    let place = first_misused(nodes, n);
-    match place {
-        Found::Nowhere => tree_refusal(nodes, inputs, NodeNumber(n - 1)),
-        Found::At(j) => Verdict::Refused(Refusal {
-            number: 6,
-            place: j,
-        }),
+    if let Some(place) = first_misused(nodes, n) {
+        return Err(Cause::NotUsedOnce.at(place));
     }
+    tree_refusal(nodes, inputs, NodeNumber(n - 1))
 }

@@ -7,8 +7,8 @@ use Rattle.annotation.proofs.typing.+types.Goals as goal
 pub field-returns-then-is_child : goal.field-returns-then-is_child
 field-returns-then-is_child t c = search at_child_field
 
-pub field-returns : goal.field-returns
-field-returns t c = search at_other_field
+pub field-returns-else-is_child : goal.field-returns-else-is_child
+field-returns-else-is_child t c = search at_other_field
 
 pub fields-returns : goal.fields-returns
 fields-returns t c =

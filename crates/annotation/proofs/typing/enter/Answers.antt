@@ -5,5 +5,5 @@ use Rattle.annotation.proofs.typing.enter.Goals as goal
 pub returns-then-is_binder : goal.returns-then-is_binder
 returns-then-is_binder c = search enter_binder
 
-pub returns : goal.returns
-returns c = search pass_over
+pub returns-else-is_binder : goal.returns-else-is_binder
+returns-else-is_binder c = search pass_over

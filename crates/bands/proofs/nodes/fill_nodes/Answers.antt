@@ -3,32 +3,30 @@ use mathlib.Core.Path.{refl}
 use native.Mathlib.Omega.{arith}
 use Rattle.bands.specs.Rows.{max_rows}
 use Rattle.bands.specs.BandScript.{band_nodes}
-use Rattle.bands.proofs.Filling.{fill_goes_on, fill_ends}
+use Rattle.bands.proofs.Filling.{fill_begins, fill_goes_on, fill_ends, fill_long, long_by}
 use Rattle.bands.proofs.nodes.fill_nodes.Goals as goal
 
-pub overflow_mul-nodes : goal.overflow_mul-nodes
+pub overflow_mul-i-end : goal.overflow_mul-i-end
 unfolding max_rows
-overflow_mul-nodes c = omega (arith, c.requires.row_count.few)
+overflow_mul-i-end c = omega (arith, c.requires.few)
 
-pub node-d-requires : goal.node-d-requires
+pub loop-i-init : goal.loop-i-init
+loop-i-init c = fill_begins _ _ _ _ _ _ _ (long_by c.requires c.new-nodes.ensures)
+
+pub node-requires-clause-i_bound : goal.node-requires-clause-i_bound
 unfolding band_nodes
-node-d-requires c =
-    record {
-      row_count = c.requires.row_count;
-      i_bound = omega (arith, c.loop-i-test.true);
-    }
+node-requires-clause-i_bound c = c.loop-i-test.true
 
 pub loop-i-preserved : goal.loop-i-preserved
 unfolding band_nodes
 loop-i-preserved c =
     fill_goes_on _ _ _ _ _ _ _
-    c.loop-i.invariant c.loop-i-test.true refl c.node-d.ensures c.put_node.ensures
-
-pub overflow_add-i : goal.overflow_add-i
-unfolding max_rows
-overflow_add-i c =
-    omega (arith, c.requires.row_count.few, c.loop-i-test.true)
+    c.loop-i.invariant c.loop-i-test.true refl c.node.ensures c.put.ensures
 
 pub returns : goal.returns
 unfolding band_nodes
-returns c = fill_ends _ _ _ _ _ _ _ c.loop-i.invariant c.loop-i-test.false refl
+returns c =
+    record {
+      held = fill_ends _ _ _ _ _ _ _ c.loop-i.invariant c.loop-i-test.false refl;
+      long = fill_long _ _ _ _ _ _ _ c.loop-i.invariant;
+    }

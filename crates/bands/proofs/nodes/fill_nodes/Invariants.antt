@@ -1,12 +1,9 @@
 -- `bands::nodes::fill_nodes` meets its contract: the loop fills. Assumes nothing.
-use Prim.Native.Nat.{◌-◌}
-use Rattle.bands.specs.Calls.{columns_of}
+use Rattle.bands.specs.Calls.{columns_in}
 use Rattle.bands.proofs.Filling.{Filling}
 use Rattle.bands.proofs.nodes.fill_nodes.Given as goal
 
 abbrev pub invariant-loop-i : goal.invariant-loop-i
 invariant-loop-i l =
-    Filling l.count (columns_of l.low l.high l.grade) l.initial.kinds l.initial.a l.initial.b l.initial.c l.initial.values l.i l.kinds l.a l.b l.c l.values
-
-abbrev pub decreases-loop-i : goal.decreases-loop-i
-decreases-loop-i l = l.nodes - l.i
+    Filling l.count (columns_in l.rows) l.initial.nodes.kinds l.initial.nodes.a l.initial.nodes.b l.initial.nodes.c l.initial.nodes.values l.i
+    l.nodes.kinds l.nodes.a l.nodes.b l.nodes.c l.nodes.values

@@ -1,19 +1,11 @@
 -- `bands::rows::columns_refusal` meets its contract: by the lengths of the columns. Assumes nothing.
 use Rattle.script.specs.Verdicts.{refusal_of}
-use Rattle.bands.proofs.Refusing.{columns_long_lem, short_low, short_high, short_grade}
+use Rattle.bands.proofs.Refusing.{columns_long_lem, columns_short}
 use Rattle.bands.proofs.rows.columns_refusal.Goals as goal
 
-pub returns-then-rows-grade : goal.returns-then-rows-grade
-returns-then-rows-grade c = columns_long_lem _ _ c.if-rows-low.true c.if-rows-high.true c.if-rows-grade.true c.rows_refusal.ensures
-
-pub returns-else-rows-grade : goal.returns-else-rows-grade
+pub returns-then-not-hold : goal.returns-then-not-hold
 unfolding refusal_of
-returns-else-rows-grade c = short_grade _ _ c.if-rows-low.true c.if-rows-high.true c.if-rows-grade.false
+returns-then-not-hold c = rw c.at.ensures (columns_short _ _ c.hold.ensures c.if-not-hold.true)
 
-pub returns-else-rows-high : goal.returns-else-rows-high
-unfolding refusal_of
-returns-else-rows-high c = short_high _ _ c.if-rows-low.true c.if-rows-high.false
-
-pub returns-else-rows-low : goal.returns-else-rows-low
-unfolding refusal_of
-returns-else-rows-low c = short_low _ _ c.if-rows-low.false
+pub returns : goal.returns
+returns c = columns_long_lem _ _ c.hold.ensures c.if-not-hold.false c.rows_refusal.ensures

@@ -1,27 +1,15 @@
--- `bands::rows::gap` meets its contract: the loop searches. Assumes nothing.
-use native.Mathlib.Omega.{arith}
+-- `bands::rows::gap` meets its contract: by the search, up to the place after the last row. Assumes nothing.
+use Rattle.std.proofs.Common.{ap, ◌∙◌, add-one}
+use borrow.Author.Rules.{rules}
 use Rattle.lambdamix.specs.Refusal.{refused_at}
-use Rattle.script.specs.Verdicts.{refusal_of}
-use Rattle.script.proofs.Searching.{search_goes_on, search_finds, search_ends}
-use Rattle.bands.specs.Rows.{max_rows}
-use Rattle.bands.proofs.RowTests.{joins_tested}
+use Rattle.bands.specs.Rows.{joins_before}
+use Rattle.bands.specs.Calls.{columns_in, rows_in}
+use Rattle.bands.proofs.RowTests.{joins_told}
 use Rattle.bands.proofs.rows.gap.Goals as goal
 
-pub loop-k-preserved : goal.loop-k-preserved
-loop-k-preserved c =
-    search_goes_on _ c.loop-k.invariant (omega (arith, c.loop-k-test.true)) (joins_tested _ _ _ _ c.loop-k-test.true c.joins_before.ensures
-    c.if-joins_before.true)
-
-pub returns-else-joins_before : goal.returns-else-joins_before
-unfolding refusal_of refused_at
-returns-else-joins_before c =
-    rw (← search_finds _ c.loop-k.invariant (omega (arith, c.loop-k-test.true)) (joins_tested _ _ _ _ c.loop-k-test.true c.joins_before.ensures
-    c.if-joins_before.false))
-
 pub returns : goal.returns
-unfolding refusal_of refused_at
-returns c = rw (← search_ends _ c.loop-k.invariant (omega (arith, c.loop-k-test.false)))
-
-pub overflow_add-k : goal.overflow_add-k
-unfolding max_rows
-overflow_add-k c = omega arith
+returns c =
+    let x = columns_in c.args.rows.now in
+    c.refused_at.ensures
+    ∙ ap (refused_at 32)
+    (rw add-one at (c.first_failing.ensures (joins_before (rows_in c.args.count x)) (λ j b l q. joins_told _ x.low x.high x.grade (rw add-one at l) (search rules))))

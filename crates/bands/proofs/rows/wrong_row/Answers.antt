@@ -1,27 +1,14 @@
--- `bands::rows::wrong_row` meets its contract: the loop searches. Assumes nothing.
-use mathlib.Core.Path.{◌∙◌}
-use native.Mathlib.Omega.{arith}
-use mir.Syntax.{w32}
-use mir.Facts.{to_z-of_z}
+-- `bands::rows::wrong_row` meets its contract: by the search. Assumes nothing.
+use Rattle.std.proofs.Common.{ap, ◌∙◌}
+use borrow.Author.Rules.{rules}
 use Rattle.lambdamix.specs.Refusal.{refused_at}
-use Rattle.script.specs.Verdicts.{refusal_of}
-use Rattle.script.proofs.Searching.{search_goes_on, search_finds, search_ends}
-use Rattle.bands.proofs.RowTests.{right_tested}
+use Rattle.bands.specs.Rows.{band_right, band_at}
+use Rattle.bands.specs.Calls.{columns_in, rows_in}
+use Rattle.bands.proofs.RowTests.{right_told}
 use Rattle.bands.proofs.rows.wrong_row.Goals as goal
 
-pub loop-k-preserved : goal.loop-k-preserved
-loop-k-preserved c =
-    search_goes_on _ c.loop-k.invariant (omega (arith, c.loop-k-test.true)) (right_tested _ _ _ _ c.loop-k-test.true (to_z-of_z {w = w32}
-    (record { sfits = c.at32.type_inv }) ∙ c.at32.ensures) (to_z-of_z {w = w32} (record { sfits = c.at32-in-loop-k.type_inv }) ∙ c.at32-in-loop-k.ensures)
-    (to_z-of_z {w = w32} (record { sfits = c.at32-in-loop-k-2.type_inv }) ∙ c.at32-in-loop-k-2.ensures) c.band_right.ensures c.if-band_right.true)
-
-pub returns-else-band_right : goal.returns-else-band_right
-unfolding refusal_of refused_at
-returns-else-band_right c =
-    rw (← search_finds _ c.loop-k.invariant (omega (arith, c.loop-k-test.true)) (right_tested _ _ _ _ c.loop-k-test.true (to_z-of_z {w = w32}
-    (record { sfits = c.at32.type_inv }) ∙ c.at32.ensures) (to_z-of_z {w = w32} (record { sfits = c.at32-in-loop-k.type_inv }) ∙ c.at32-in-loop-k.ensures)
-    (to_z-of_z {w = w32} (record { sfits = c.at32-in-loop-k-2.type_inv }) ∙ c.at32-in-loop-k-2.ensures) c.band_right.ensures c.if-band_right.false))
-
 pub returns : goal.returns
-unfolding refusal_of refused_at
-returns c = rw (← search_ends _ c.loop-k.invariant (omega (arith, c.loop-k-test.false)))
+returns c =
+    let x = columns_in c.args.rows.now in
+    c.refused_at.ensures
+    ∙ ap (refused_at 30) (c.first_failing.ensures (λ k. band_right (band_at (rows_in c.args.count x) k)) (λ j b l q. right_told _ x l (search rules)))

@@ -6,7 +6,7 @@ use Rattle.emission.proofs.emit.finish.Goals as goal
 
 pub returns-then-room-eq0 : goal.returns-then-room-eq0
 unfolding max_nodes
-returns-then-room-eq0 c = λ s k i. finish_unfit s _ k (search (rules, counted_over))
+returns-then-room-eq0 c = λ s k i. rw c.at.ensures (finish_unfit s _ k (search (rules, counted_over)))
 
 pub finish_file-requires : goal.finish_file-requires
 unfolding max_nodes

@@ -12,8 +12,9 @@ use Rattle.emission.proofs.emit.finish_file.Goals as goal
 pub returns-then-out-file_size : goal.returns-then-out-file_size
 returns-then-out-file_size c =
     λ x k i.
-    finish_short x (inputs_in c.args.inputs.now) c.args.count i (code_at c.args.codes.now c.args.p) c.requires.0 k c.requires.1
-    (omega (arith, c.if-out-file_size.true, c.file_size.ensures))
+    rw c.at.ensures
+    (finish_short x (inputs_in c.args.inputs.now) c.args.count i (code_at c.args.codes.now c.args.p) c.requires.0 k c.requires.1
+    (omega (arith, c.if-out-file_size.true, c.file_size.ensures)))
 
 pub emit_root-requires : goal.emit_root-requires
 unfolding node_offset

@@ -6,9 +6,10 @@ use Rattle.file.proofs.WritingLaws.{put_over}
 use Rattle.file.proofs.WriterLaws.{tables_length}
 use Rattle.file.proofs.writer.fit.Goals as goal
 
-pub returns-then-size-out : goal.returns-then-size-out
-returns-then-size-out c =
-    let size = c.file_size-size.ensures ∙ sym (tables_length _ _ _ _) in text_fits size (omega (arith, c.if-size-out.true)) (put_over c.emit.ensures (omega (arith, size, c.if-size-out.true)))
+pub returns-then-out-size : goal.returns-then-out-size
+returns-then-out-size c = rw c.at.ensures (text_short (c.file_size-size.ensures ∙ sym (tables_length _ _ _ _)) (omega (arith, c.if-out-size.true)) refl)
 
 pub returns : goal.returns
-returns c = text_short (c.file_size-size.ensures ∙ sym (tables_length _ _ _ _)) (omega (arith, c.if-size-out.false)) refl
+returns c =
+    let size = c.file_size-size.ensures ∙ sym (tables_length _ _ _ _) in
+    text_fits size (omega (arith, c.if-out-size.false)) (put_over c.emit.ensures (omega (arith, size, c.if-out-size.false)))

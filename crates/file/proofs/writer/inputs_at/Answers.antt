@@ -1,13 +1,18 @@
 -- `file::writer::inputs_at` meets its contract: before each turn the records so far stand in the output. Assumes nothing.
 use native.Mathlib.Omega.{arith}
 use Rattle.script.specs.File.{input_bytes, input_offset}
-use Rattle.file.proofs.WritingLaws.{put_same, progress_none, progress_more}
+use Rattle.file.proofs.Layouts.{input_layout}
+use Rattle.file.proofs.WritingLaws.{put_no_record, put_record, put_records}
 use Rattle.file.proofs.writer.inputs_at.Goals as goal
 
 pub loop-j-init : goal.loop-j-init
-unfolding input_offset
-loop-j-init c = progress_none (omega arith) (omega (arith, c.input_offset-first.ensures))
+loop-j-init c = put_no_record input_layout _ _ _
 
 pub loop-j-preserved : goal.loop-j-preserved
+unfolding input_offset
 loop-j-preserved c =
-    progress_more c.loop-j.invariant c.loop-j-test.true (put_same (λ x. input_bytes (c.at16.ensures x)) c.input_at.ensures)
+    put_record input_layout _ _ _ c.loop-j.invariant (omega (arith, c.input_offset.ensures)) (λ x. input_bytes (c.type_at-input.ensures x))
+    c.input_at.ensures
+
+pub returns : goal.returns
+returns c = put_records input_layout _ _ c.loop-j.invariant c.loop-j.auto.j-end c.loop-j-test.false

@@ -4,22 +4,23 @@ use native.Mathlib.Omega.{arith}
 use mir.Syntax.{w32}
 use mir.Facts.{to_z-of_z}
 use Rattle.script.specs.File.{node_bytes, node_offset, file_length}
-use Rattle.file.proofs.Layouts.{node_sized}
-use Rattle.file.proofs.WritingLaws.{put_same, put_there, progress_none, progress_more}
+use Rattle.file.proofs.Layouts.{node_sized, node_layout}
+use Rattle.file.proofs.WritingLaws.{put_there, put_no_record, put_record, put_records}
 use Rattle.file.proofs.writer.nodes_at.Goals as goal
 
 pub loop-j-init : goal.loop-j-init
-unfolding node_offset
-loop-j-init c = progress_none (omega arith) (omega (arith, c.node_offset-first.ensures))
+loop-j-init c = put_no_record node_layout _ _ _
 
 pub loop-j-preserved : goal.loop-j-preserved
 unfolding file_length node_offset
 loop-j-preserved c =
-    progress_more c.loop-j.invariant c.loop-j-test.true (put_same (λ x. node_bytes (record {
-      kind = c.at8-kind.ensures x;
-      a = c.at16-fa.ensures
-          x;
-      b = c.at16-fb.ensures x;
-      c = c.at16-fc.ensures x;
-      value = (to_z-of_z {w = w32} (record { sfits = c.at32-value.type_inv }) ∙ c.at32-value.ensures) x;
-    })) (put_there (node_sized _) (omega (arith, c.requires, c.node_offset-first.ensures, c.loop-j.invariant.kept, c.loop-j-test.true)) c.node_at.ensures))
+    put_record node_layout _ _ _ c.loop-j.invariant (omega (arith, c.node_offset-place.ensures)) (λ x. node_bytes (record {
+      kind = c.at-kind.ensures x;
+      a = c.at-a.ensures x;
+      b = c.at-b.ensures x;
+      c = c.at-c.ensures x;
+      value = (to_z-of_z {w = w32} (record { sfits = c.at-value.type_inv }) ∙ c.at-value.ensures) x;
+    })) (put_there (node_sized _) (omega (arith, c.requires, c.node_offset-place.ensures)) c.node_at.ensures)
+
+pub returns : goal.returns
+returns c = put_records node_layout _ _ c.loop-j.invariant c.loop-j.auto.j-end c.loop-j-test.false

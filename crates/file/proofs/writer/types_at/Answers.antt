@@ -1,17 +1,18 @@
 -- `file::writer::types_at` meets its contract: before each turn the records so far stand in the output. Assumes nothing.
 use native.Mathlib.Omega.{arith}
 use Rattle.script.specs.File.{type_bytes, type_offset}
-use Rattle.file.proofs.WritingLaws.{put_same, progress_none, progress_more}
+use Rattle.file.proofs.Layouts.{type_layout}
+use Rattle.file.proofs.WritingLaws.{put_no_record, put_record, put_records}
 use Rattle.file.proofs.writer.types_at.Goals as goal
 
 pub loop-j-init : goal.loop-j-init
-unfolding type_offset
-loop-j-init c = progress_none (omega arith) (omega (arith, c.type_offset-first.ensures))
+loop-j-init c = put_no_record type_layout _ _ _
 
 pub loop-j-preserved : goal.loop-j-preserved
+unfolding type_offset
 loop-j-preserved c =
-    progress_more c.loop-j.invariant c.loop-j-test.true (put_same (λ x. type_bytes (record {
-      parameter = c.at16.ensures x;
-      result =
-          c.at16-in-loop-j.ensures x;
-    })) c.type_at.ensures)
+    put_record type_layout _ _ _ c.loop-j.invariant (omega (arith, c.type_offset.ensures))
+    (λ x. type_bytes (record { parameter = c.type_at-parameter.ensures x; result = c.type_at-res.ensures x })) c.type_at.ensures
+
+pub returns : goal.returns
+returns c = put_records type_layout _ _ c.loop-j.invariant c.loop-j.auto.j-end c.loop-j-test.false

@@ -1,11 +1,10 @@
--- `file::writer::value_inside` meets its contract: stores one after the other, each behind the last. Assumes nothing.
-use mathlib.Core.List.{[], ◌∷◌}
-use Prim.Native.Nat.{◌/◌, ◌%◌}
+-- `file::writer::value_inside` meets its contract: its bytes take the place of as many. Assumes nothing.
+use mathlib.Core.Path.{◌∙◌}
+use native.Mathlib.Omega.{arith}
 use Rattle.script.specs.Bytes.{bytes32}
-use Rattle.file.proofs.WritingLaws.{put_places}
+use Rattle.file.proofs.WritingLaws.{put_part}
 use Rattle.file.proofs.writer.value_inside.Goals as goal
 
 pub returns : goal.returns
 unfolding bytes32
-returns c =
-    put_places _ (c.args.w / 256 % 256 ∷ c.args.w / 65536 % 256 ∷ c.args.w / 16777216 % 256 ∷ []) c.args.out.now c.args.at
+returns c = put_part (c.copy_from_slice.ensures.after ∙ c.to_le_bytes.ensures) (omega arith) (omega (arith, c.requires))

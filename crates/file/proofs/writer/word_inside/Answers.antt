@@ -1,10 +1,10 @@
--- `file::writer::word_inside` meets its contract: one store behind the other. Assumes nothing.
-use mathlib.Core.List.{[], ◌∷◌}
-use Prim.Native.Nat.{◌/◌, ◌%◌}
+-- `file::writer::word_inside` meets its contract: its bytes take the place of as many. Assumes nothing.
+use mathlib.Core.Path.{◌∙◌}
+use native.Mathlib.Omega.{arith}
 use Rattle.script.specs.Bytes.{bytes16}
-use Rattle.file.proofs.WritingLaws.{put_places}
+use Rattle.file.proofs.WritingLaws.{put_part}
 use Rattle.file.proofs.writer.word_inside.Goals as goal
 
 pub returns : goal.returns
 unfolding bytes16
-returns c = put_places _ (c.args.v / 256 % 256 ∷ []) c.args.out.now c.args.at
+returns c = put_part (c.copy_from_slice.ensures.after ∙ c.to_le_bytes.ensures) (omega arith) (omega (arith, c.requires))

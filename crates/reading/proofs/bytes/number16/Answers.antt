@@ -1,12 +1,8 @@
 -- `reading::bytes::number16` meets its contract: the lower byte stands first. Assumes nothing.
 use native.Mathlib.Omega.{arith}
-use Rattle.script.specs.Bytes.{byte_at, number16}
-use Rattle.reading.proofs.WordLaws.{number16_past}
+use Rattle.script.specs.Bytes.{number16}
 use Rattle.reading.proofs.bytes.number16.Goals as goal
 
-pub returns-then-i-s : goal.returns-then-i-s
-unfolding number16 byte_at
-returns-then-i-s c = omega arith
-
 pub returns : goal.returns
-returns c = number16_past _ _ c.if-i-s.false
+unfolding number16
+returns c = let h = rw c.pair.ensures at c.from_le_bytes.ensures in omega arith

@@ -1,29 +1,28 @@
--- `reading::marks::unmarked` meets its contract: the loop searches. Assumes nothing.
-use Prim.Native.Nat.{ℕ}
-use mathlib.Core.Path.{◌≡◌, sym, ap, ◌∙◌}
-use mathlib.Core.Bool.{Bool}
-use mathlib.Core.List.{List}
+-- `reading::marks::unmarked` meets its contract: it searches. Assumes nothing.
+use Prim.Native.Nat.{◌+◌, ◌*◌}
+use mathlib.Core.Path.{ap}
+use native.Mathlib.Omega.{arith}
+use borrow.Author.Rules.{rules}
 use Rattle.script.specs.Refusals.{marked, refused_record}
-use Rattle.script.specs.Verdicts.{refusal_of}
-use Rattle.script.proofs.Searching.{search_goes_on, search_finds, search_ends}
+use Rattle.script.specs.Verdicts.{refusal_of, found_at}
+use Rattle.script.proofs.Searching.{found_below}
 use Rattle.reading.proofs.marks.unmarked.Goals as goal
 
--- what is told of a record's mark is told at its place
-mark-told : (x y : ℕ) (file : List ℕ) {at o : ℕ} {b r : Bool} → at ≡ o → b ≡ marked x y file at → b ≡ r → marked x y file o ≡ r
-mark-told x y file p e h = ap (marked x y file) (sym p) ∙ sym e ∙ h
+pub overflow_cast-j : goal.overflow_cast-j
+unfolding found_at
+overflow_cast-j c =
+    let h = c.first_failing.ensures (λ k. marked c.args.x c.args.y c.args.file.now (c.args.first + c.args.stride * k)) (λ j b l q. search rules) in
+    let k = found_below _ _ _ {m = c.args.count} h (omega arith) c.in-Some.j (ap found_at c.in-Some.is) in
+    omega arith
 
-pub loop-j-preserved : goal.loop-j-preserved
-loop-j-preserved c =
-    search_goes_on _ c.loop-j.invariant c.loop-j-test.true (mark-told _ _ _ c.place-at.ensures c.marked.ensures c.if-marked.true)
+pub returns-in-Some : goal.returns-in-Some
+unfolding found_at refusal_of refused_record
+returns-in-Some c =
+    let h = c.first_failing.ensures (λ k. marked c.args.x c.args.y c.args.file.now (c.args.first + c.args.stride * k)) (λ j b l q. search rules) in
+    rw (← h, c.in-Some.is, c.at.ensures, c.place.ensures)
 
-pub returns-else-marked : goal.returns-else-marked
-unfolding refusal_of refused_record
-returns-else-marked c =
-    rw (
-      c.place-at.ensures,
-      ← search_finds _ c.loop-j.invariant c.loop-j-test.true (mark-told _ _ _ c.place-at.ensures c.marked.ensures c.if-marked.false),
-    )
-
-pub returns : goal.returns
-unfolding refusal_of refused_record
-returns c = rw (← search_ends _ c.loop-j.invariant c.loop-j-test.false)
+pub returns-in-None : goal.returns-in-None
+unfolding found_at refusal_of refused_record
+returns-in-None c =
+    let h = c.first_failing.ensures (λ k. marked c.args.x c.args.y c.args.file.now (c.args.first + c.args.stride * k)) (λ j b l q. search rules) in
+    rw (← h, c.in-None.is)

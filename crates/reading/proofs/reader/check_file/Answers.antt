@@ -7,13 +7,13 @@ use Rattle.reading.proofs.ReaderLaws.{head_passes}
 use Rattle.reading.proofs.reader.check_file.Goals as goal
 
 pub body_refusal-requires : goal.body_refusal-requires
-body_refusal-requires c = head_passes _ (passed_tells_none c.head_refusal.ensures c.in-Passed.is)
+body_refusal-requires c = head_passes _ (passed_tells_none c.head_refusal.ensures c.in_ok-head_refusal.was)
 
-pub returns-in-Refused : goal.returns-in-Refused
+pub returns-in_err-head_refusal : goal.returns-in_err-head_refusal
 unfolding file_refusal
-returns-in-Refused c = refusal_tells (refused_tells_first c.head_refusal.ensures _ c.in-Refused.is (search rules))
+returns-in_err-head_refusal c =
+    refusal_tells (refused_tells_first c.head_refusal.ensures _ c.in_err-head_refusal.was (search rules))
 
-pub returns-in-Passed : goal.returns-in-Passed
+pub returns : goal.returns
 unfolding file_refusal
-returns-in-Passed c =
-    refusal_tells (passed_tells_next c.head_refusal.ensures c.in-Passed.is c.body_refusal.ensures)
+returns c = refusal_tells (passed_tells_next c.head_refusal.ensures c.in_ok-head_refusal.was c.body_refusal.ensures)

@@ -1,32 +1,44 @@
 -- `reading::reader::head_refusal` meets its contract: four tests in their order. Assumes nothing.
-use borrow.Author.Tests.{le-leb, lt-leb, eq-eqb, ne_eqb}
-use mathlib.Core.Path.{refl, sym, ◌∙◌}
-use Rattle.lambdamix.specs.Refusal.{or_else, refused_unless}
-use Rattle.script.specs.Verdicts.{refusal_of}
-use Rattle.reading.proofs.HeadLaws.{head_by_tests, counts_told, length_told}
+use mathlib.Core.Path.{ap, ◌∙◌}
+use mathlib.Core.Bool.{Bool}
+use lib.Dec.{eqb}
+use lib.ListN.{length}
+use Prim.Native.Nat.{ℕ}
+use borrow.Author.Rules.{rules}
+use Rattle.lambdamix.specs.Refusal.{refused_unless}
+use Rattle.script.specs.Refusals.{head_refusal}
+use Rattle.script.proofs.Verdicts.{refused_tells_first, passed_tells_next}
+use Rattle.reading.proofs.HeadLaws.{counts_told, length_told}
 use Rattle.reading.proofs.reader.head_refusal.Goals as goal
 
-pub returns-then-length-lt8 : goal.returns-then-length-lt8
-unfolding refusal_of refused_unless or_else
-returns-then-length-lt8 c = head_by_tests _ (lt-leb _ _ c.if-length-lt8.true) refl refl refl
+pub returns-in_err-refuse_unless : goal.returns-in_err-refuse_unless
+unfolding head_refusal
+returns-in_err-refuse_unless c =
+    refused_tells_first c.refuse_unless.ensures _ c.in_err-refuse_unless.was (search rules)
 
-pub returns-then-length-file_size : goal.returns-then-length-file_size
-unfolding refusal_of refused_unless or_else
-returns-then-length-file_size c =
-    head_by_tests _ (le-leb _ _ c.if-length-lt8.false) (sym c.marked.ensures ∙ c.if-marked.true) (counts_told _ c.head_counts-n.ensures
-    c.counts_right.ensures c.if-counts_right.true) (eq-eqb _ _ (c.if-length-file_size.true ∙ length_told _ c.head_counts-n.ensures c.file_size.ensures))
+pub returns-in_err-refuse_unless-2 : goal.returns-in_err-refuse_unless-2
+unfolding head_refusal
+returns-in_err-refuse_unless-2 c =
+    let mark = c.refuse_unless-2.ensures ∙ ap (λ (b : Bool). refused_unless b 2 0) c.marked.ensures in
+    passed_tells_next c.refuse_unless.ensures c.in_ok-refuse_unless.was
+    (refused_tells_first mark _ c.in_err-refuse_unless-2.was (search rules))
 
-pub returns-then-counts_right : goal.returns-then-counts_right
-unfolding refusal_of refused_unless or_else
-returns-then-counts_right c =
-    head_by_tests _ (le-leb _ _ c.if-length-lt8.false) (sym c.marked.ensures ∙ c.if-marked.true) (counts_told _ c.head_counts-n.ensures
-    c.counts_right.ensures c.if-counts_right.true) (ne_eqb _ _ (λ e. c.if-length-file_size.false (e ∙ sym (length_told _ c.head_counts-n.ensures c.file_size.ensures))))
-
-pub returns-then-marked : goal.returns-then-marked
-unfolding refusal_of refused_unless or_else
-returns-then-marked c =
-    head_by_tests _ (le-leb _ _ c.if-length-lt8.false) (sym c.marked.ensures ∙ c.if-marked.true) (counts_told _ c.head_counts-n.ensures c.counts_right.ensures c.if-counts_right.false) refl
+pub returns-in_err-refuse_unless-3 : goal.returns-in_err-refuse_unless-3
+unfolding head_refusal
+returns-in_err-refuse_unless-3 c =
+    let mark = c.refuse_unless-2.ensures ∙ ap (λ (b : Bool). refused_unless b 2 0) c.marked.ensures in
+    let counts = c.refuse_unless-3.ensures ∙ ap (λ (b : Bool). refused_unless b 3 0) (counts_told _ c.head_counts-n.ensures c.counts_right.ensures) in
+    passed_tells_next c.refuse_unless.ensures c.in_ok-refuse_unless.was
+    (passed_tells_next mark c.in_ok-refuse_unless-2.was (refused_tells_first counts _ c.in_err-refuse_unless-3.was (search rules)))
 
 pub returns : goal.returns
-unfolding refusal_of refused_unless or_else
-returns c = head_by_tests _ (le-leb _ _ c.if-length-lt8.false) (sym c.marked.ensures ∙ c.if-marked.false) refl refl
+unfolding head_refusal
+returns c =
+    let mark = c.refuse_unless-2.ensures ∙ ap (λ (b : Bool). refused_unless b 2 0) c.marked.ensures in
+    let counts = c.refuse_unless-3.ensures ∙ ap (λ (b : Bool). refused_unless b 3 0) (counts_told _ c.head_counts-n.ensures c.counts_right.ensures) in
+    let total =
+    c.refuse_unless-4.ensures
+    ∙ ap (λ (k : ℕ). refused_unless (eqb (length c.args.file.now) k) 1 (length c.args.file.now)) (length_told _ c.head_counts-n.ensures c.file_size.ensures)
+    in
+    passed_tells_next c.refuse_unless.ensures c.in_ok-refuse_unless.was
+    (passed_tells_next mark c.in_ok-refuse_unless-2.was (passed_tells_next counts c.in_ok-refuse_unless-3.was total))

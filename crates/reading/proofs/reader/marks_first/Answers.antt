@@ -5,24 +5,22 @@ use Rattle.script.specs.Verdicts.{refusal_of}
 use Rattle.reading.specs.Heads.{marks_first}
 use Rattle.reading.proofs.reader.marks_first.Goals as goal
 
-pub returns-then-y-x : goal.returns-then-y-x
-unfolding marks_first earlier_by refusal_of
-returns-then-y-x c =
-    rw (c.in-Refused.is, c.in-Refused-f.is, lt-ltb _ _ c.if-y-lt6.true, lt-ltb _ _ c.if-y-x.true)
-
-pub returns-in-Passed : goal.returns-in-Passed
+pub returns-in-Ok-default : goal.returns-in-Ok-default
 unfolding marks_first refusal_of
-returns-in-Passed c = rw c.in-Passed.is
+returns-in-Ok-default c = rw c.in-Ok-default.is-0
 
-pub returns-in-Passed-f : goal.returns-in-Passed-f
+pub returns-in-Err-Err : goal.returns-in-Err-Err
+unfolding marks_first earlier_by refusal_of
+returns-in-Err-Err c = rw (c.in-Err-Err.is-0, c.in-Err-Err.is-1, lt-ltb _ _ c.if-y-lt6.true, lt-ltb _ _ c.if-y-x.true)
+
+pub returns-in-Err-default : goal.returns-in-Err-default
+unfolding marks_first earlier_by refusal_of
+returns-in-Err-default c = rw (c.in-Err-Err.is-0, c.in-Err-Err.is-1, lt-ltb _ _ c.if-y-lt6.true, le-ltb _ _ c.if-y-x.false)
+
+pub returns-in-Err-default-2 : goal.returns-in-Err-default-2
+unfolding marks_first earlier_by refusal_of
+returns-in-Err-default-2 c = rw (c.in-Err-Err.is-0, c.in-Err-Err.is-1, le-ltb _ _ c.if-y-lt6.false)
+
+pub returns-in-Err-default-3 : goal.returns-in-Err-default-3
 unfolding marks_first refusal_of
-returns-in-Passed-f c = rw (c.in-Refused.is, c.in-Passed-f.is)
-
-pub returns-else-y-x : goal.returns-else-y-x
-unfolding marks_first earlier_by refusal_of
-returns-else-y-x c =
-    rw (c.in-Refused.is, c.in-Refused-f.is, lt-ltb _ _ c.if-y-lt6.true, le-ltb _ _ c.if-y-x.false)
-
-pub returns-else-y-lt6 : goal.returns-else-y-lt6
-unfolding marks_first earlier_by refusal_of
-returns-else-y-lt6 c = rw (c.in-Refused.is, c.in-Refused-f.is, le-ltb _ _ c.if-y-lt6.false)
+returns-in-Err-default-3 c = rw (c.in-Err-default.is-0, c.in-Err-default.is-1)

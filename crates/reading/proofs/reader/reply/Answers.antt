@@ -1,18 +1,27 @@
 -- `reading::reader::reply` meets its contract: the file's verdict, then the lengths of the columns. Assumes nothing.
+use mathlib.Core.Path.{ap, ◌∙◌}
+use mathlib.Core.Bool.{Bool}
+use borrow.Author.Rules.{rules}
+use Rattle.lambdamix.specs.Refusal.{refused_unless}
 use Rattle.script.proofs.ReplyLaws.{tells_refusal}
-use Rattle.reading.proofs.ReaderLaws.{refused_read, passed_read, short_read, long_told}
+use Rattle.script.proofs.Verdicts.{refused_tells_first, passed_tells_next}
+use Rattle.reading.specs.Heads.{read_reply}
+use Rattle.reading.proofs.ReaderLaws.{reads_refused, reads_passed, long_told}
 use Rattle.reading.proofs.reader.reply.Goals as goal
 
-pub returns-then-long_enough : goal.returns-then-long_enough
-returns-then-long_enough c =
-    passed_read _ (tells_refusal c.check_file.ensures) c.in-Passed.is
-    c.head_counts-n.ensures
-    (search (long_told _ _ _ _ _ _ _ _ _ c.head_counts-n.ensures c.long_enough.ensures)) c.if-long_enough.true
+pub returns-in_err-check_file : goal.returns-in_err-check_file
+unfolding read_reply
+returns-in_err-check_file c =
+    reads_refused (refused_tells_first (tells_refusal c.check_file.ensures) _ c.in_err-check_file.was c.in_err-check_file.was) _ c.in_err-check_file.was (search rules)
 
-pub returns-in-Refused : goal.returns-in-Refused
-returns-in-Refused c = refused_read _ (tells_refusal c.check_file.ensures) _ c.in-Refused.is
+pub returns-in_err-refuse_unless : goal.returns-in_err-refuse_unless
+unfolding read_reply
+returns-in_err-refuse_unless c =
+    let long = c.refuse_unless.ensures ∙ ap (λ (b : Bool). refused_unless b 21 0) (long_told _ _ c.head_counts-n.ensures c.hold.ensures) in
+    reads_refused (passed_tells_next (tells_refusal c.check_file.ensures) c.in_ok-check_file.was long) _ c.in_err-refuse_unless.was (search rules)
 
-pub returns-else-long_enough : goal.returns-else-long_enough
-returns-else-long_enough c =
-    short_read _ (tells_refusal c.check_file.ensures) c.in-Passed.is
-    (search (long_told _ _ _ _ _ _ _ _ _ c.head_counts-n.ensures c.long_enough.ensures)) c.if-long_enough.false
+pub returns : goal.returns
+unfolding read_reply
+returns c =
+    let long = c.refuse_unless.ensures ∙ ap (λ (b : Bool). refused_unless b 21 0) (long_told _ _ c.head_counts-n.ensures c.hold.ensures) in
+    reads_passed (passed_tells_next (tells_refusal c.check_file.ensures) c.in_ok-check_file.was long) c.in_ok-refuse_unless.was c.head_counts-n.ensures

@@ -1,15 +1,11 @@
--- `report::answer::respond` meets its contract: the output is long enough for every answer, or 21. Assumes nothing.
-use native.Mathlib.Omega.{arith}
-use Rattle.lambdamix.specs.Limits.{max_bytes}
-use Rattle.streams.proofs.Responding.{call_answered, call_short}
-use Rattle.report.specs.Report.{report}
+-- `report::answer::respond` meets its contract: the answer has room, or 21. Assumes nothing.
 use borrow.Author.Rules.{rules}
+use Rattle.streams.specs.Answers.{Answers}
+use Rattle.report.specs.Report.{report}
+use Rattle.report.specs.Stages.{ran_texts}
 use Rattle.report.proofs.answer.respond.Goals as goal
 
-pub returns-then-out-ge-MAX_BYTES : goal.returns-then-out-ge-MAX_BYTES
-unfolding max_bytes report
-returns-then-out-ge-MAX_BYTES c = call_answered (omega arith) (omega (arith, c.well_formed)) c.answer.ensures
-
 pub returns : goal.returns
-unfolding max_bytes
-returns c = call_short (search rules) (search rules) (omega arith)
+unfolding report
+returns c =
+    c.answered.ensures (report c.args.input.now) (λ x y n l p. let a : Answers ran_texts c.args.input.now x y n = search rules in a.answers l)

@@ -6,5 +6,5 @@ use Rattle.residual.proofs.code.operator.Goals as goal
 pub returns-then-f-lt6 : goal.returns-then-f-lt6
 returns-then-f-lt6 c = operator_number_lem _ c.if-f-lt6.true
 
-pub returns : goal.returns
-returns c = past_operators _ c.if-f-lt6.false
+pub returns-else-f-lt6 : goal.returns-else-f-lt6
+returns-else-f-lt6 c = past_operators _ c.if-f-lt6.false

@@ -1,5 +1,6 @@
 -- The count of code goes by the rows of its cells' kinds: the cycle of calls {charge_field, charge_piece, charge_pieces, charge_row}. The
 -- measure is the place, since a piece stands below its cell. Assumes nothing.
+use borrow.Author.Rules.{rules}
 use Prim.Native.Nat.{ℕ}
 use mathlib.Core.Path.{◌≡◌, refl}
 use native.Mathlib.Omega.{arith}
@@ -42,44 +43,44 @@ charge_piece-returns-then-room-lt2 t c = charges_none c.if-room-lt2.true
 pub charge_piece-returns-then-p-q : goal.charge_piece-returns-then-p-q
 charge_piece-returns-then-p-q t c = charges_lift c.if-p-q.true c.charge_node.ensures
 
-pub charge_piece-returns-then-kind-eq1 : goal.charge_piece-returns-then-kind-eq1
-charge_piece-returns-then-kind-eq1 t c = charges_variable c.if-p-q.false (record { word = refl; kind = c.kind.ensures }) c.if-kind-eq1.true
+pub charge_piece-returns-then-kind-eq-VARIABLE : goal.charge_piece-returns-then-kind-eq-VARIABLE
+charge_piece-returns-then-kind-eq-VARIABLE t c = charges_variable c.if-p-q.false (record { word = refl; kind = c.kind.ensures }) c.if-kind-eq-VARIABLE.true
 
 pub charge_piece-returns-then-levels-eq0 : goal.charge_piece-returns-then-levels-eq0
 charge_piece-returns-then-levels-eq0 t c =
     charges_flat c.if-p-q.false (record { word = refl; kind = c.kind.ensures })
-    c.if-kind-eq1.false c.if-levels-eq0.true
+    c.if-kind-eq-VARIABLE.false c.if-levels-eq0.true
 
 pub charge_piece-returns : goal.charge_piece-returns
 charge_piece-returns t c = charges_under c.if-p-q.false c.if-levels-eq0.false c.charge_pieces.ensures
 
 pub charge_pieces-returns-in-1 : goal.charge_pieces-returns-in-1
 charge_pieces-returns-in-1 t c =
-    row_charged (record { word = c.requires.1; kind = c.kind.ensures }) variable c.in-1.is c.row_of.ensures c.charge_row.ensures
+    row_charged (record { word = c.requires.1; kind = c.kind.ensures }) variable c.in-1.is c.step_row.ensures c.charge_row.ensures
 
 pub charge_pieces-returns-in-8 : goal.charge_pieces-returns-in-8
 charge_pieces-returns-in-8 t c =
-    row_charged (record { word = c.requires.1; kind = c.kind.ensures }) function c.in-8.is c.row_of-in-8.ensures c.charge_row-in-8.ensures
+    row_charged (record { word = c.requires.1; kind = c.kind.ensures }) function c.in-8.is c.step_row-in-8.ensures c.charge_row-in-8.ensures
 
 pub charge_pieces-returns-in-9 : goal.charge_pieces-returns-in-9
 charge_pieces-returns-in-9 t c =
-    row_charged (record { word = c.requires.1; kind = c.kind.ensures }) application c.in-9.is c.row_of-in-9.ensures c.charge_row-in-9.ensures
+    row_charged (record { word = c.requires.1; kind = c.kind.ensures }) application c.in-9.is c.step_row-in-9.ensures c.charge_row-in-9.ensures
 
 pub charge_pieces-returns-in-10 : goal.charge_pieces-returns-in-10
 charge_pieces-returns-in-10 t c =
-    row_charged (record { word = c.requires.1; kind = c.kind.ensures }) fix c.in-10.is c.row_of-in-10.ensures c.charge_row-in-10.ensures
+    row_charged (record { word = c.requires.1; kind = c.kind.ensures }) fix c.in-10.is c.step_row-in-10.ensures c.charge_row-in-10.ensures
 
 pub charge_pieces-returns-in-11 : goal.charge_pieces-returns-in-11
 charge_pieces-returns-in-11 t c =
-    row_charged (record { word = c.requires.1; kind = c.kind.ensures }) choice c.in-11.is c.row_of-in-11.ensures c.charge_row-in-11.ensures
+    row_charged (record { word = c.requires.1; kind = c.kind.ensures }) choice c.in-11.is c.step_row-in-11.ensures c.charge_row-in-11.ensures
 
 pub charge_pieces-returns-in-12 : goal.charge_pieces-returns-in-12
 charge_pieces-returns-in-12 t c =
-    row_charged (record { word = c.requires.1; kind = c.kind.ensures }) operation c.in-12.is c.row_of-in-12.ensures c.charge_row-in-12.ensures
+    row_charged (record { word = c.requires.1; kind = c.kind.ensures }) operation c.in-12.is c.step_row-in-12.ensures c.charge_row-in-12.ensures
 
 pub charge_pieces-returns-in_default : goal.charge_pieces-returns-in_default
 charge_pieces-returns-in_default t c =
-    under_code (is_constant (record { word = c.requires.1; kind = c.kind.ensures }) c.in_default.in_default-own.rest)
+    under_code (is_constant (record { word = c.requires.1; kind = c.kind.ensures }) (search rules))
     (all_node c.charge_node.ensures)
 
 pub charge_row-charge_field-a-requires : goal.charge_row-charge_field-a-requires

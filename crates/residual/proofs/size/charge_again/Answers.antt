@@ -1,12 +1,6 @@
--- `residual::size::charge_again` meets its contract: each branch knows whether as much is left. Assumes nothing.
-use native.Mathlib.Omega.{arith}
-use Rattle.residual.specs.Cells.{room_of}
+-- `residual::size::charge_again` meets its contract: what is left lessens by what was taken. Assumes nothing.
 use Rattle.residual.proofs.Charging.{again}
 use Rattle.residual.proofs.size.charge_again.Goals as goal
 
-pub returns-then-left-taken : goal.returns-then-left-taken
-unfolding room_of
-returns-then-left-taken c = λ d h e. (again d h c.args.room c.args.left e).0 c.if-left-taken.true
-
 pub returns : goal.returns
-returns c = λ d h e. (again d h c.args.room c.args.left e).1 _ c.if-left-taken.false (omega arith)
+returns c = λ d h e. again d h c.args.room c.args.left e _ c.saturating_sub.ensures

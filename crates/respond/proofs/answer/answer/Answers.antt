@@ -1,17 +1,25 @@
 -- `respond::answer::answer` meets its contract: by the reader's answer, on tables that are long enough. Assumes nothing.
-use mathlib.Core.Path.{refl}
 use native.Mathlib.Omega.{arith}
-use Rattle.lambdamix.specs.Limits.{max_types, max_inputs, max_nodes}
-use Rattle.script.specs.Columns.{enough}
 use Rattle.script.specs.Bytes.{byte_at}
-use Rattle.script.specs.Tables.{long_enough}
-use Rattle.streams.proofs.Responding.{input_answered}
+use Rattle.streams.proofs.Files.{blank_long}
+use Rattle.streams.proofs.Splitting.{end_within}
+use Rattle.streams.proofs.Responding.{input_answered, answered_read, answered_refused}
 use Rattle.respond.proofs.Making.{tells_refused}
 use Rattle.respond.proofs.answer.answer.Goals as goal
 
-pub returns : goal.returns
-unfolding byte_at long_enough enough max_types max_inputs max_nodes
-returns c =
-    input_answered _ tells_refused _ refl c.script_end-end.ensures c.read-told.ensures (omega (arith, c.script_end-end.ensures))
-    (record { below = λ i. omega (arith, c.shared_slice_known-1.given i) })
-    c.answer_script.ensures
+pub split_at-requires : goal.split_at-requires
+split_at-requires c = end_within _ _ c.script_end.ensures
+
+pub returns-in-Ok : goal.returns-in-Ok
+unfolding byte_at
+returns-in-Ok c =
+    input_answered _ tells_refused _ (blank_long c.new-tables.ensures) c.script_end.ensures c.split_at.ensures.front c.split_at.ensures.back c.read_tables.ensures
+    (record { below = λ i. omega (arith, c.type_inv.input i) })
+    (answered_read c.in-Ok.is (rw c.columns.ensures at c.answer_script.ensures))
+
+pub returns-in-Err : goal.returns-in-Err
+unfolding byte_at
+returns-in-Err c =
+    input_answered _ tells_refused _ (blank_long c.new-tables.ensures) c.script_end.ensures c.split_at.ensures.front c.split_at.ensures.back c.read_tables.ensures
+    (record { below = λ i. omega (arith, c.type_inv.input i) })
+    (answered_refused c.in-Err.is c.print_unmade.ensures)

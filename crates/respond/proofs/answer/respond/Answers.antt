@@ -1,11 +1,11 @@
--- `respond::answer::respond` meets its contract: the output is long enough for every answer, or 21. Assumes nothing.
-use native.Mathlib.Omega.{arith}
-use Rattle.lambdamix.specs.Limits.{max_bytes}
-use Rattle.streams.proofs.Responding.{call_answered, call_short}
-use Rattle.respond.specs.Response.{response}
+-- `respond::answer::respond` meets its contract: the answer has room, or 21. Assumes nothing.
 use borrow.Author.Rules.{rules}
+use Rattle.streams.specs.Answers.{Answers}
+use Rattle.respond.specs.Response.{response}
+use Rattle.respond.specs.Stages.{made_texts}
 use Rattle.respond.proofs.answer.respond.Goals as goal
 
 pub returns : goal.returns
-unfolding max_bytes
-returns c = call_short (search rules) (search rules) (omega arith)
+unfolding response
+returns c =
+    c.answered.ensures (response c.args.input.now) (λ x y n l p. let a : Answers made_texts c.args.input.now x y n = search rules in a.answers l)

@@ -1,16 +1,13 @@
--- `respond::stage::answer_script` meets its contract: by the reader's answer and the maker's reply. Assumes nothing.
+-- `respond::stage::answer_script` meets its contract: by the maker's reply. Assumes nothing.
 use mathlib.Core.Path.{refl}
 use Rattle.lambdamix.specs.Limits.{max_bytes}
 use Rattle.respond.proofs.Answering.{answered_unmade, answered_made}
-use Rattle.streams.proofs.Responding.{answered_read}
 use Rattle.respond.proofs.stage.answer_script.Goals as goal
 
-pub returns-in-Unmade : goal.returns-in-Unmade
+pub returns-in-Err : goal.returns-in-Err
 unfolding max_bytes
-returns-in-Unmade c =
-    answered_read c.in-Read.is (answered_unmade c.make_given-reply.ensures refl c.in-Unmade.is c.print_unmade-in-Unmade.ensures)
+returns-in-Err c = answered_unmade c.make_given.ensures refl c.in-Err.is c.print_unmade.ensures
 
-pub returns-in-Made : goal.returns-in-Made
+pub returns-in-Ok : goal.returns-in-Ok
 unfolding max_bytes
-returns-in-Made c =
-    answered_read c.in-Read.is (answered_made c.make_given-reply.ensures refl c.in-Made.is c.print_made.ensures)
+returns-in-Ok c = answered_made c.make_given.ensures refl c.in-Ok.is c.print_made.ensures

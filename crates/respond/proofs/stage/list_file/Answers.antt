@@ -1,14 +1,15 @@
 -- `respond::stage::list_file` meets its contract: by the reader's answer, on tables that are long enough. Assumes nothing.
-use mathlib.Core.Path.{refl}
 use native.Mathlib.Omega.{arith}
-use Rattle.lambdamix.specs.Limits.{max_types, max_inputs, max_nodes}
-use Rattle.script.specs.Columns.{enough}
 use Rattle.script.specs.Bytes.{byte_at}
-use Rattle.script.specs.Tables.{long_enough}
-use Rattle.respond.proofs.Holding.{file_listed}
+use Rattle.streams.proofs.Files.{blank_long}
+use Rattle.respond.proofs.Holding.{file_listed, never_listed}
 use Rattle.respond.proofs.stage.list_file.Goals as goal
 
-pub returns : goal.returns
-unfolding byte_at long_enough enough max_types max_inputs max_nodes
-returns c =
-    file_listed refl c.read-told.ensures (record { below = λ i. omega (arith, c.shared_slice_known-1.given i) }) c.list_at.ensures
+pub returns-in-Ok : goal.returns-in-Ok
+unfolding byte_at
+returns-in-Ok c =
+    file_listed (blank_long c.new-tables.ensures) c.read_tables.ensures (record { below = λ i. omega (arith, c.type_inv.file i) }) c.in-Ok.is
+    (rw c.columns.ensures at c.list_at.ensures)
+
+pub returns-in-Err : goal.returns-in-Err
+returns-in-Err c = never_listed (blank_long c.new-tables.ensures) c.read_tables.ensures c.in-Err.is

@@ -4,4 +4,4 @@ use Rattle.respond.proofs.stage.print_made.Goals as goal
 
 pub returns : goal.returns
 returns c =
-    made_printed c.least-end.ensures c.file_size.ensures c.print_counts-at.auto.out c.print_counts-at.ensures c.list_file.ensures
+    made_printed c.min-end.ensures c.file_size.ensures c.print_counts-at.auto.out c.print_counts-at.ensures c.list_file.ensures

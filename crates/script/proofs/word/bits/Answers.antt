@@ -1,11 +1,10 @@
--- `script::word::bits` meets its contract: the bits of a number below 0 are the number plus 2 ^ 32. Assumes nothing.
-use mathlib.Core.Path.{ap}
-use lib.IntN.{nat_abs}
-use Rattle.script.proofs.SignedBits.{below_zero, from_zero}
+-- `script::word::bits` meets its contract. Assumes nothing.
+use mathlib.Core.Path.{ap, ◌∙◌}
+use mir.Facts.{to_z-of_z}
+use mir.Syntax.{w32}
+use mir.Val.{of_z}
+use Rattle.script.proofs.SignedBits.{bits_of}
 use Rattle.script.proofs.word.bits.Goals as goal
 
-pub returns-then-z-lt0 : goal.returns-then-z-lt0
-returns-then-z-lt0 c = ap nat_abs (below_zero c.ranges.z c.if-z-lt0.true)
-
-pub returns-else-z-lt0 : goal.returns-else-z-lt0
-returns-else-z-lt0 c = ap nat_abs (from_zero c.ranges.z c.if-z-lt0.false)
+pub returns : goal.returns
+returns c = c.cast_unsigned.ensures ∙ ap (of_z w32) (to_z-of_z c.ranges.z) ∙ bits_of c.args.z

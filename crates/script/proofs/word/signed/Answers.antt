@@ -1,9 +1,9 @@
--- `script::word::signed` meets its contract: from 2 ^ 31 on, bits stand for the number 2 ^ 32 lower. Assumes nothing.
-use Rattle.script.proofs.SignedBits.{upper_half, lower_half}
+-- `script::word::signed` meets its contract. Assumes nothing.
+use mathlib.Core.Path.{◌∙◌}
+use mir.Facts.{to_z-of_z}
+use mir.Syntax.{w32}
+use Rattle.script.proofs.SignedBits.{signed_of}
 use Rattle.script.proofs.word.signed.Goals as goal
 
-pub returns-then-n-lt-SIGNED_LIMIT : goal.returns-then-n-lt-SIGNED_LIMIT
-returns-then-n-lt-SIGNED_LIMIT c = upper_half c.if-n-lt-SIGNED_LIMIT.true
-
-pub returns-else-n-lt-SIGNED_LIMIT : goal.returns-else-n-lt-SIGNED_LIMIT
-returns-else-n-lt-SIGNED_LIMIT c = lower_half c.ranges.n c.if-n-lt-SIGNED_LIMIT.false
+pub returns : goal.returns
+returns c = to_z-of_z {w = w32} (record { sfits = c.cast_signed.type_inv }) ∙ c.cast_signed.ensures ∙ signed_of c.args.n

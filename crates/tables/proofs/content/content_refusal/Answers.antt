@@ -2,7 +2,6 @@
 use mathlib.Core.Path.{sym, ◌∙◌}
 use native.Mathlib.Omega.{arith}
 use Rattle.lambdamix.specs.Limits.{max_types, max_inputs, max_nodes}
-use Rattle.script.specs.Tables.{row_type, row_input, row_node}
 use Rattle.script.specs.Verdicts.{refusal_of}
 use Rattle.script.proofs.Searching.{found_below}
 use Rattle.script.proofs.Sound.{in_limits}
@@ -14,9 +13,9 @@ pub first_bad_node-bad_node-requires : goal.first_bad_node-bad_node-requires
 unfolding max_nodes
 first_bad_node-bad_node-requires c =
     let at-counts-right = c.counts_right in
-    let at-if1 = c.if-counts_right in
+    let at-if1 = c.if-not-counts_right in
     let at_pre = c.requires in
-    let l = in_limits _ _ _ (sym at-counts-right.ensures ∙ at-if1.true) in record {
+    let l = in_limits _ _ _ (sym at-counts-right.ensures ∙ at-if1.false) in record {
       nodes_le_max_nodes = (
         omega (arith, l.nodes),
         omega (
@@ -32,11 +31,11 @@ pub record_refusal-requires : goal.record_refusal-requires
 unfolding max_types max_inputs max_nodes
 record_refusal-requires c =
     let at-counts-right = c.counts_right in
-    let at-if1 = c.if-counts_right in
+    let at-if1 = c.if-not-counts_right in
     let at-first-bad-type = c.first_bad_type-bad_type in
     let at-first-bad-input = c.first_bad_input-bad_input in
     let at-first-bad-node = c.first_bad_node-bad_node in
-    let l = in_limits _ _ _ (sym at-counts-right.ensures ∙ at-if1.true) in (
+    let l = in_limits _ _ _ (sym at-counts-right.ensures ∙ at-if1.false) in (
       found_below _ _ _ at-first-bad-type.ensures (omega
           (arith, l.types)),
       (
@@ -45,22 +44,21 @@ record_refusal-requires c =
       ),
     )
 
-pub returns-then-counts_right : goal.returns-then-counts_right
-unfolding row_type row_input row_node
-returns-then-counts_right c =
+pub returns : goal.returns
+returns c =
     let at-counts-right = c.counts_right in
-    let at-if1 = c.if-counts_right in
+    let at-if1 = c.if-not-counts_right in
     let at-first-bad-type = c.first_bad_type-bad_type in
     let at-first-bad-input = c.first_bad_input-bad_input in
     let at-first-bad-node = c.first_bad_node-bad_node in record {
-      reply = c.record_refusal.ensures ∙ content_by_searches _ _ _ _ (sym at-counts-right.ensures ∙ at-if1.true) at-first-bad-type.ensures at-first-bad-input.ensures at-first-bad-node.ensures.found;
+      reply = c.record_refusal.ensures ∙ content_by_searches _ _ _ _ (sym at-counts-right.ensures ∙ at-if1.false) at-first-bad-type.ensures at-first-bad-input.ensures at-first-bad-node.ensures.found;
       packed = packed_by_search _ _ _ _ _ c.record_refusal.ensures
           at-first-bad-node.ensures.packed;
     }
 
-pub returns-else-counts_right : goal.returns-else-counts_right
+pub returns-then-not-counts_right : goal.returns-then-not-counts_right
 unfolding refusal_of
-returns-else-counts_right c = record {
-  reply = wrong_counts _ _ _ _ (sym c.counts_right.ensures ∙ c.if-counts_right.false);
+returns-then-not-counts_right c = record {
+  reply = rw c.at.ensures (wrong_counts _ _ _ _ (sym c.counts_right.ensures ∙ c.if-not-counts_right.true));
   packed = not_packed;
 }

@@ -7,6 +7,7 @@ use mir.Syntax.{w16, w32, w64}
 use mir.Val.{Fits}
 use mir.Facts.{to_z-of_z}
 use Rattle.lambdamix.specs.Limits.{max_nodes}
+use Rattle.script.specs.Tables.{row_node}
 use Rattle.script.specs.Verdicts.{found_at}
 use Rattle.script.proofs.WordLaws.{holds_row, packed_more}
 use Rattle.tables.proofs.ContentLaws.{node_told}
@@ -26,6 +27,7 @@ unfolding max_nodes
 in-word h k = omega arith
 
 pub loop-j-preserved : goal.loop-j-preserved
+unfolding row_node
 loop-j-preserved c =
     let at_value = c.value-1 in
     let at-loop = c.loop-j in
@@ -34,7 +36,7 @@ loop-j-preserved c =
     let at_pre = c.requires in
     let v = to_z-of_z {w = w32} (record { sfits = at_value.given }) in (
       search_goes_on _ at-loop.invariant.0 at-loop-test.true (node_told
-          _ _ _ _ c.node_right.ensures refl refl refl refl v c.if-node_right.true),
+          _ _ _ _ c.node_right.ensures refl refl refl refl v c.if-not-node_right.false),
       (
         packed_more at-loop.invariant.1.0 (holds_row
             at-pack-node.ensures refl refl refl refl v) (omega (arith, at-loop.invariant.1.1, at-loop-test.true, at_pre.nodes_le_max_nodes)),
@@ -43,15 +45,15 @@ loop-j-preserved c =
       ),
     )
 
-pub returns-else-node_right : goal.returns-else-node_right
-unfolding found_at
-returns-else-node_right c =
+pub returns-then-not-node_right : goal.returns-then-not-node_right
+unfolding found_at row_node
+returns-then-not-node_right c =
     let at_value = c.value-1 in
     let at-loop = c.loop-j in
     let at-loop-test = c.loop-j-test in
     let v = to_z-of_z {w = w32} (record { sfits = at_value.given }) in record {
       found = search_finds _ at-loop.invariant.0 at-loop-test.true (node_told _
-          _ _ _ c.node_right.ensures refl refl refl refl v c.if-node_right.false);
+          _ _ _ c.node_right.ensures refl refl refl refl v c.if-not-node_right.true);
       packed = record {
         all = λ e. let z : ◌≡◌ {A = ℕ} 0 1 = cc in
             absurd (omega arith);

@@ -8,29 +8,29 @@ use Rattle.tables.proofs.records.record_refusal.Goals as goal
 
 pub overflow_cast-j : goal.overflow_cast-j
 unfolding found_at
-overflow_cast-j c = omega (arith, c.requires.0 _ (ap found_at c.in-At.is))
+overflow_cast-j c = omega (arith, c.requires.0 _ (ap found_at c.in-Some.is))
 
-pub overflow_cast-j-in-At-bad_input : goal.overflow_cast-j-in-At-bad_input
+pub overflow_cast-j-in-Some-bad_input : goal.overflow_cast-j-in-Some-bad_input
 unfolding found_at
-overflow_cast-j-in-At-bad_input c = omega (arith, c.requires.1.0 _ (ap found_at c.in-At-bad_input.is))
+overflow_cast-j-in-Some-bad_input c = omega (arith, c.requires.1.0 _ (ap found_at c.in-Some-bad_input.is))
 
-pub overflow_cast-j-in-At-bad_node : goal.overflow_cast-j-in-At-bad_node
+pub overflow_cast-j-in-Some-bad_node : goal.overflow_cast-j-in-Some-bad_node
 unfolding found_at
-overflow_cast-j-in-At-bad_node c = omega (arith, c.requires.1.1 _ (ap found_at c.in-At-bad_node.is))
+overflow_cast-j-in-Some-bad_node c = omega (arith, c.requires.1.1 _ (ap found_at c.in-Some-bad_node.is))
 
-pub returns-in-At : goal.returns-in-At
+pub returns-in-Some : goal.returns-in-Some
 unfolding refusal_of refused_record found_at or_else
-returns-in-At c = rw (c.in-At.is, c.type_offset.ensures)
+returns-in-Some c = rw (c.in-Some.is, c.at.ensures, c.type_offset.ensures)
 
-pub returns-in-At-bad_input : goal.returns-in-At-bad_input
+pub returns-in-Some-bad_input : goal.returns-in-Some-bad_input
 unfolding refusal_of refused_record found_at or_else
-returns-in-At-bad_input c = rw (c.in_default.is, c.in-At-bad_input.is, c.input_offset.ensures)
+returns-in-Some-bad_input c = rw (c.in_default.is, c.in-Some-bad_input.is, c.at-in-Some-bad_input.ensures, c.input_offset.ensures)
 
-pub returns-in-At-bad_node : goal.returns-in-At-bad_node
+pub returns-in-Some-bad_node : goal.returns-in-Some-bad_node
 unfolding refusal_of refused_record found_at or_else
-returns-in-At-bad_node c =
-    rw (c.in_default.is, c.in_default-bad_input.is, c.in-At-bad_node.is, c.node_offset.ensures)
+returns-in-Some-bad_node c =
+    rw (c.in_default.is, c.in_default-bad_input.is, c.in-Some-bad_node.is, c.at-in-Some-bad_node.ensures, c.node_offset.ensures)
 
-pub returns-in-Nowhere : goal.returns-in-Nowhere
+pub returns : goal.returns
 unfolding refusal_of refused_record found_at or_else
-returns-in-Nowhere c = rw (c.in_default.is, c.in_default-bad_input.is, c.in-Nowhere.is)
+returns c = rw (c.in_default.is, c.in_default-bad_input.is, c.in_default-bad_node.is)

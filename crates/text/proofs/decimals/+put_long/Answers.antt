@@ -16,4 +16,4 @@ overflow_add-result-2 t c =
 
 pub returns : goal.returns
 returns t c =
-    put_longer c.put_long-front.ensures (omega (arith, c.if-x-lt-LIMIT_32.false)) c.put8.ensures
+    put_longer c.put_long-front.ensures (omega (arith, c.if-x-lt-LIMIT_32.false)) c.put.ensures

@@ -3,4 +3,4 @@ use Rattle.text.proofs.Writing.{put_none, put_last}
 use Rattle.text.proofs.parts.put_letter.Goals as goal
 
 pub returns : goal.returns
-returns c = put_last c.args.letter put_none c.put8.ensures
+returns c = put_last c.args.letter put_none c.put.ensures

@@ -1,85 +1,97 @@
 -- The proof of the cycle of calls of the search for unbound variables. Each arm of the match reads the row of its own kind. As no more levels are allowed
 -- than there are places, every name has its place. Assumes nothing.
 use mathlib.Core.Path.{refl}
+use mathlib.Core.Logic.{⊎_elim}
 use native.Mathlib.Omega.{arith}
 use Rattle.script.specs.Words.{columns_in}
-use Rattle.script.proofs.TableLaws.{Other}
 use Rattle.walks.specs.Walks.{unbound_field, same}
 use Rattle.walks.proofs.OwnRow.{own_row, own_children, no_row, no_children}
 use Rattle.walks.proofs.Scopes.{levels_less, scoped_name, child_height, no_height, scoped_child, scoped_stray, scoped_high, scoped_fields}
 use Rattle.walks.proofs.Scopes.{scoped_row, scoped_past}
 use Rattle.walks.proofs.structure.+scopes.Goals as goal
 
-pub scope-returns-in-0 : goal.scope-returns-in-0
-scope-returns-in-0 t c =
-    scoped_row c.args.nodes.now.now _ _ c.node_word-w.ensures _ (own_row _ c.kind.ensures c.row_of.ensures (omega arith))
-    (own_children _ c.kind.ensures c.row_of.ensures (omega arith)) c.scope_fields.ensures
+pub scope-returns-in-0-by_kind : goal.scope-returns-in-0-by_kind
+scope-returns-in-0-by_kind t c =
+    let r = c.by_kind-step_row.ensures in
+    scoped_row c.args.nodes.now.now _ _ c.node_word-w.ensures _ (own_row _ c.kind.ensures r c.in-0-by_kind.is)
+    (own_children _ c.kind.ensures r c.in-0-by_kind.is) c.by_kind-scope_fields.ensures
 
-pub scope-returns-in-1 : goal.scope-returns-in-1
-scope-returns-in-1 t c =
-    scoped_row c.args.nodes.now.now _ _ c.node_word-w.ensures _ (own_row _ c.kind.ensures c.row_of-in-1.ensures (omega arith))
-    (own_children _ c.kind.ensures c.row_of-in-1.ensures (omega arith)) c.scope_fields-in-1.ensures
+pub scope-returns-in-1-by_kind : goal.scope-returns-in-1-by_kind
+scope-returns-in-1-by_kind t c =
+    let r = c.by_kind-step_row-2.ensures in
+    scoped_row c.args.nodes.now.now _ _ c.node_word-w.ensures _ (own_row _ c.kind.ensures r c.in-1-by_kind.is)
+    (own_children _ c.kind.ensures r c.in-1-by_kind.is) c.by_kind-scope_fields-2.ensures
 
-pub scope-returns-in-2 : goal.scope-returns-in-2
-scope-returns-in-2 t c =
-    scoped_row c.args.nodes.now.now _ _ c.node_word-w.ensures _ (own_row _ c.kind.ensures c.row_of-in-2.ensures (omega arith))
-    (own_children _ c.kind.ensures c.row_of-in-2.ensures (omega arith)) c.scope_fields-in-2.ensures
+pub scope-returns-in-2-by_kind : goal.scope-returns-in-2-by_kind
+scope-returns-in-2-by_kind t c =
+    let r = c.by_kind-step_row-3.ensures in
+    scoped_row c.args.nodes.now.now _ _ c.node_word-w.ensures _ (own_row _ c.kind.ensures r c.in-2-by_kind.is)
+    (own_children _ c.kind.ensures r c.in-2-by_kind.is) c.by_kind-scope_fields-3.ensures
 
-pub scope-returns-in-3 : goal.scope-returns-in-3
-scope-returns-in-3 t c =
-    scoped_row c.args.nodes.now.now _ _ c.node_word-w.ensures _ (own_row _ c.kind.ensures c.row_of-in-3.ensures (omega arith))
-    (own_children _ c.kind.ensures c.row_of-in-3.ensures (omega arith)) c.scope_fields-in-3.ensures
+pub scope-returns-in-3-by_kind : goal.scope-returns-in-3-by_kind
+scope-returns-in-3-by_kind t c =
+    let r = c.by_kind-step_row-4.ensures in
+    scoped_row c.args.nodes.now.now _ _ c.node_word-w.ensures _ (own_row _ c.kind.ensures r c.in-3-by_kind.is)
+    (own_children _ c.kind.ensures r c.in-3-by_kind.is) c.by_kind-scope_fields-4.ensures
 
-pub scope-returns-in-4 : goal.scope-returns-in-4
-scope-returns-in-4 t c =
-    scoped_row c.args.nodes.now.now _ _ c.node_word-w.ensures _ (own_row _ c.kind.ensures c.row_of-in-4.ensures (omega arith))
-    (own_children _ c.kind.ensures c.row_of-in-4.ensures (omega arith)) c.scope_fields-in-4.ensures
+pub scope-returns-in-4-by_kind : goal.scope-returns-in-4-by_kind
+scope-returns-in-4-by_kind t c =
+    let r = c.by_kind-step_row-5.ensures in
+    scoped_row c.args.nodes.now.now _ _ c.node_word-w.ensures _ (own_row _ c.kind.ensures r c.in-4-by_kind.is)
+    (own_children _ c.kind.ensures r c.in-4-by_kind.is) c.by_kind-scope_fields-5.ensures
 
-pub scope-returns-in-5 : goal.scope-returns-in-5
-scope-returns-in-5 t c =
-    scoped_row c.args.nodes.now.now _ _ c.node_word-w.ensures _ (own_row _ c.kind.ensures c.row_of-in-5.ensures (omega arith))
-    (own_children _ c.kind.ensures c.row_of-in-5.ensures (omega arith)) c.scope_fields-in-5.ensures
+pub scope-returns-in-5-by_kind : goal.scope-returns-in-5-by_kind
+scope-returns-in-5-by_kind t c =
+    let r = c.by_kind-step_row-6.ensures in
+    scoped_row c.args.nodes.now.now _ _ c.node_word-w.ensures _ (own_row _ c.kind.ensures r c.in-5-by_kind.is)
+    (own_children _ c.kind.ensures r c.in-5-by_kind.is) c.by_kind-scope_fields-6.ensures
 
-pub scope-returns-in-6 : goal.scope-returns-in-6
-scope-returns-in-6 t c =
-    scoped_row c.args.nodes.now.now _ _ c.node_word-w.ensures _ (own_row _ c.kind.ensures c.row_of-in-6.ensures (omega arith))
-    (own_children _ c.kind.ensures c.row_of-in-6.ensures (omega arith)) c.scope_fields-in-6.ensures
+pub scope-returns-in-6-by_kind : goal.scope-returns-in-6-by_kind
+scope-returns-in-6-by_kind t c =
+    let r = c.by_kind-step_row-7.ensures in
+    scoped_row c.args.nodes.now.now _ _ c.node_word-w.ensures _ (own_row _ c.kind.ensures r c.in-6-by_kind.is)
+    (own_children _ c.kind.ensures r c.in-6-by_kind.is) c.by_kind-scope_fields-7.ensures
 
-pub scope-returns-in-7 : goal.scope-returns-in-7
-scope-returns-in-7 t c =
-    scoped_row c.args.nodes.now.now _ _ c.node_word-w.ensures _ (own_row _ c.kind.ensures c.row_of-in-7.ensures (omega arith))
-    (own_children _ c.kind.ensures c.row_of-in-7.ensures (omega arith)) c.scope_fields-in-7.ensures
+pub scope-returns-in-7-by_kind : goal.scope-returns-in-7-by_kind
+scope-returns-in-7-by_kind t c =
+    let r = c.by_kind-step_row-8.ensures in
+    scoped_row c.args.nodes.now.now _ _ c.node_word-w.ensures _ (own_row _ c.kind.ensures r c.in-7-by_kind.is)
+    (own_children _ c.kind.ensures r c.in-7-by_kind.is) c.by_kind-scope_fields-8.ensures
 
-pub scope-returns-in-8 : goal.scope-returns-in-8
-scope-returns-in-8 t c =
-    scoped_row c.args.nodes.now.now _ _ c.node_word-w.ensures _ (own_row _ c.kind.ensures c.row_of-in-8.ensures (omega arith))
-    (own_children _ c.kind.ensures c.row_of-in-8.ensures (omega arith)) c.scope_fields-in-8.ensures
+pub scope-returns-in-8-by_kind : goal.scope-returns-in-8-by_kind
+scope-returns-in-8-by_kind t c =
+    let r = c.by_kind-step_row-9.ensures in
+    scoped_row c.args.nodes.now.now _ _ c.node_word-w.ensures _ (own_row _ c.kind.ensures r c.in-8-by_kind.is)
+    (own_children _ c.kind.ensures r c.in-8-by_kind.is) c.by_kind-scope_fields-9.ensures
 
-pub scope-returns-in-9 : goal.scope-returns-in-9
-scope-returns-in-9 t c =
-    scoped_row c.args.nodes.now.now _ _ c.node_word-w.ensures _ (own_row _ c.kind.ensures c.row_of-in-9.ensures (omega arith))
-    (own_children _ c.kind.ensures c.row_of-in-9.ensures (omega arith)) c.scope_fields-in-9.ensures
+pub scope-returns-in-9-by_kind : goal.scope-returns-in-9-by_kind
+scope-returns-in-9-by_kind t c =
+    let r = c.by_kind-step_row-10.ensures in
+    scoped_row c.args.nodes.now.now _ _ c.node_word-w.ensures _ (own_row _ c.kind.ensures r c.in-9-by_kind.is)
+    (own_children _ c.kind.ensures r c.in-9-by_kind.is) c.by_kind-scope_fields-10.ensures
 
-pub scope-returns-in-10 : goal.scope-returns-in-10
-scope-returns-in-10 t c =
-    scoped_row c.args.nodes.now.now _ _ c.node_word-w.ensures _ (own_row _ c.kind.ensures c.row_of-in-10.ensures (omega arith))
-    (own_children _ c.kind.ensures c.row_of-in-10.ensures (omega arith)) c.scope_fields-in-10.ensures
+pub scope-returns-in-10-by_kind : goal.scope-returns-in-10-by_kind
+scope-returns-in-10-by_kind t c =
+    let r = c.by_kind-step_row-11.ensures in
+    scoped_row c.args.nodes.now.now _ _ c.node_word-w.ensures _ (own_row _ c.kind.ensures r c.in-10-by_kind.is)
+    (own_children _ c.kind.ensures r c.in-10-by_kind.is) c.by_kind-scope_fields-11.ensures
 
-pub scope-returns-in-11 : goal.scope-returns-in-11
-scope-returns-in-11 t c =
-    scoped_row c.args.nodes.now.now _ _ c.node_word-w.ensures _ (own_row _ c.kind.ensures c.row_of-in-11.ensures (omega arith))
-    (own_children _ c.kind.ensures c.row_of-in-11.ensures (omega arith)) c.scope_fields-in-11.ensures
+pub scope-returns-in-11-by_kind : goal.scope-returns-in-11-by_kind
+scope-returns-in-11-by_kind t c =
+    let r = c.by_kind-step_row-12.ensures in
+    scoped_row c.args.nodes.now.now _ _ c.node_word-w.ensures _ (own_row _ c.kind.ensures r c.in-11-by_kind.is)
+    (own_children _ c.kind.ensures r c.in-11-by_kind.is) c.by_kind-scope_fields-12.ensures
 
-pub scope-returns-in-12 : goal.scope-returns-in-12
-scope-returns-in-12 t c =
-    scoped_row c.args.nodes.now.now _ _ c.node_word-w.ensures _ (own_row _ c.kind.ensures c.row_of-in-12.ensures (omega arith))
-    (own_children _ c.kind.ensures c.row_of-in-12.ensures (omega arith)) c.scope_fields-in-12.ensures
+pub scope-returns-in-12-by_kind : goal.scope-returns-in-12-by_kind
+scope-returns-in-12-by_kind t c =
+    let r = c.by_kind-step_row-13.ensures in
+    scoped_row c.args.nodes.now.now _ _ c.node_word-w.ensures _ (own_row _ c.kind.ensures r c.in-12-by_kind.is)
+    (own_children _ c.kind.ensures r c.in-12-by_kind.is) c.by_kind-scope_fields-13.ensures
 
 pub scope-returns-in_default : goal.scope-returns-in_default
-unfolding Other
 scope-returns-in_default t c =
-    scoped_past c.args.nodes.now.now _ _ c.node_word-w.ensures _ _ (no_row _ c.kind.ensures c.in_default.in_default-own.rest)
-    (no_children _ c.kind.ensures c.in_default.in_default-own.rest)
+    scoped_past c.args.nodes.now.now _ _ c.node_word-w.ensures _ _ (no_row _ c.kind.ensures (omega arith))
+    (no_children _ c.kind.ensures (omega arith))
 
 pub scope_child-returns-then-limits-lt-LEVEL : goal.scope_child-returns-then-limits-lt-LEVEL
 scope_child-returns-then-limits-lt-LEVEL t c = scoped_high c.args.nodes.now.now _ _ _ _ _ c.if-limits-lt-LEVEL.true
@@ -111,19 +123,13 @@ scope_field-returns-in-Child t c = rw (c.in-Child.is, child_height _ _ _ refl) c
 
 pub scope_field-returns-in-Nothing : goal.scope_field-returns-in-Nothing
 unfolding unbound_field
-scope_field-returns-in-Nothing t c = rw c.in-Nothing.is (scoped_name _ (no_height _ _ _ refl) (same refl))
-
-pub scope_field-returns-in-Binder : goal.scope_field-returns-in-Binder
-unfolding unbound_field
-scope_field-returns-in-Binder t c = rw c.in-Binder.is (scoped_name _ (no_height _ _ _ refl) (same refl))
-
-pub scope_field-returns-in-ParameterType : goal.scope_field-returns-in-ParameterType
-unfolding unbound_field
-scope_field-returns-in-ParameterType t c = rw c.in-ParameterType.is (scoped_name _ (no_height _ _ _ refl) (same refl))
-
-pub scope_field-returns-in-Operation : goal.scope_field-returns-in-Operation
-unfolding unbound_field
-scope_field-returns-in-Operation t c = rw c.in-Operation.is (scoped_name _ (no_height _ _ _ refl) (same refl))
+scope_field-returns-in-Nothing t c =
+    ⊎_elim
+    (λ e. rw e (scoped_name _ (no_height _ _ _ refl) (same refl)))
+    (⊎_elim
+    (λ e. rw e (scoped_name _ (no_height _ _ _ refl) (same refl)))
+    (⊎_elim (λ e. rw e (scoped_name _ (no_height _ _ _ refl) (same refl))) (λ e. rw e (scoped_name _ (no_height _ _ _ refl) (same refl)))))
+    c.in-Nothing.is
 
 pub scope_fields-returns : goal.scope_fields-returns
 scope_fields-returns t c =

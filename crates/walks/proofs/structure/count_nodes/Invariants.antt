@@ -1,11 +1,7 @@
 -- `walks::structure::count_nodes` meets its contract. The invariant: the uses by the nodes before i are counted. Assumes nothing.
-use Prim.Native.Nat.{◌≤◌, ◌-◌}
 use Rattle.script.specs.Words.{columns_in}
 use Rattle.walks.specs.Walks.{uses_below, Counted}
 use Rattle.walks.proofs.structure.count_nodes.Given as goal
 
 abbrev pub invariant-loop-i : goal.invariant-loop-i
-invariant-loop-i l = (l.i ≤ l.count) × Counted (uses_below (columns_in l.nodes) l.i) l.initial.counts l.counts
-
-abbrev pub decreases-loop-i : goal.decreases-loop-i
-decreases-loop-i l = l.count - l.i
+invariant-loop-i l = Counted (uses_below (columns_in l.nodes) l.i) l.initial.counts l.counts

@@ -3,6 +3,7 @@ use native.Mathlib.Omega.{arith}
 use Rattle.lambdamix.specs.Limits.{max_height}
 use Rattle.walks.proofs.Heights.{node_low, node_crosses, node_passes_on, node_keeps_own}
 use Rattle.walks.proofs.structure.height_over.Goals as goal
+use Rattle.walks.proofs.structure.height_over.Goals.{else-p-gt-HIGHEST-via-then-p-gt-HIGHEST+else-p-own, else-p-gt-HIGHEST-via-else-p-gt-HIGHEST}
 
 pub returns-then-p-lt-HIGHEST : goal.returns-then-p-lt-HIGHEST
 unfolding max_height
@@ -12,10 +13,10 @@ pub returns-then-p-own : goal.returns-then-p-own
 unfolding max_height
 returns-then-p-own c = node_passes_on (omega arith) (omega arith)
 
-pub returns-else-p-own : goal.returns-else-p-own
+pub returns : goal.returns
 unfolding max_height
-returns-else-p-own c = node_keeps_own (omega arith) (omega arith) (omega arith)
-
-pub returns-else-p-gt-HIGHEST : goal.returns-else-p-gt-HIGHEST
-unfolding max_height
-returns-else-p-gt-HIGHEST c = node_crosses (omega arith) (omega arith) (omega arith)
+returns c =
+    elim c.else-p-gt-HIGHEST.branch [
+      | else-p-gt-HIGHEST-via-then-p-gt-HIGHEST+else-p-own w ↦ node_keeps_own (omega arith) (omega arith) (omega arith)
+      | else-p-gt-HIGHEST-via-else-p-gt-HIGHEST w ↦ node_crosses (omega arith) (omega arith) (omega arith)
+    ]

@@ -1,6 +1,5 @@
 -- `walks::structure::is_among` meets its contract. The invariant: whether the name is among the first d is known. Assumes nothing.
 use borrow.Author.Rules.{rules}
-use native.Mathlib.Omega.{arith}
 use Rattle.lambdamix.specs.Limits.{max_height}
 use Rattle.walks.proofs.Scopes.{found_here, found_before}
 use Rattle.walks.proofs.structure.is_among.Goals as goal
@@ -17,6 +16,6 @@ bounds-names-d c = search rules
 pub loop-d-preserved : goal.loop-d-preserved
 loop-d-preserved c =
     elim c.if-names-d.branch [
-      | then-names-d w ↦ (omega arith, found_here _ _ _ c.loop-d.invariant.1 w.if-names-d.true w.found-is)
-      | else-names-d w ↦ (omega arith, found_before _ _ _ c.loop-d.invariant.1 w.if-names-d.false w.found-is)
+      | then-names-d w ↦ found_here _ _ _ c.loop-d.invariant w.if-names-d.true w.found-is
+      | else-names-d w ↦ found_before _ _ _ c.loop-d.invariant w.if-names-d.false w.found-is
     ]

@@ -1,5 +1,5 @@
 -- `walks::structure::is_bound` meets its contract. The invariant: the name is not among the first d. Assumes nothing.
-use Prim.Native.Nat.{◌≤◌, ◌-◌}
+use Prim.Native.Nat.{◌≤◌}
 use mathlib.Core.Path.{◌≡◌}
 use mathlib.Core.Bool.{false}
 use Rattle.lambdamix.specs.Structure.{member}
@@ -8,6 +8,3 @@ use Rattle.walks.proofs.structure.is_bound.Given as goal
 
 abbrev pub invariant-loop-d : goal.invariant-loop-d
 invariant-loop-d l = (l.d ≤ l.depth) × (false ≡ member l.x.0 (innermost l.names l.d))
-
-abbrev pub decreases-loop-d : goal.decreases-loop-d
-decreases-loop-d l = l.depth - l.d

@@ -8,29 +8,22 @@ use Rattle.script.specs.Verdicts.{found_at, refusal_of}
 use Rattle.walks.proofs.Agreement.{words_agree}
 use Rattle.walks.proofs.structure.structure_refusal.Goals as goal
 
-pub returns-then-count-gt-MAX_NODES : goal.returns-then-count-gt-MAX_NODES
+pub returns-then-count-lt1 : goal.returns-then-count-lt1
 unfolding max_nodes
-returns-then-count-gt-MAX_NODES c = record { refusal = λ t x l m p fit. let z : ⊥ = omega (arith, c.if-count-gt-MAX_NODES.true) in absurd z }
+returns-then-count-lt1 c = record { refusal = λ t x l m p fit. absurd (omega arith) }
 
-pub first_misused-place-requires : goal.first_misused-place-requires
+pub first_misused-requires : goal.first_misused-requires
 unfolding max_nodes
-first_misused-place-requires c = (omega (arith, c.if-count-lt1.false), omega (arith, c.if-count-gt-MAX_NODES.false))
+first_misused-requires c = omega arith
 
-pub returns-in-Nowhere : goal.returns-in-Nowhere
-unfolding found_at refused_at or_else
-returns-in-Nowhere c =
-    let at-first-misused = c.first_misused-place in
-    record {
-      refusal = λ t x l m p fit. c.tree_refusal.ensures ∙ sym (words_agree t _ _ x _ p fit l ∙ rw (
-        sym at-first-misused.ensures,
-        c.in-Nowhere.is,
-      ));
-    }
-
-pub returns-in-At : goal.returns-in-At
+pub returns-in-Some : goal.returns-in-Some
 unfolding found_at refusal_of refused_at or_else
-returns-in-At c =
+returns-in-Some c =
     record {
       refusal = λ t x l m p fit.
-          sym (words_agree t _ _ x _ p fit l ∙ rw (sym c.first_misused-place.ensures, c.in-At.is));
+          rw c.at.ensures (sym (words_agree t _ _ x _ p fit l ∙ rw (sym c.first_misused.ensures, c.in-Some.is)));
     }
+
+pub returns : goal.returns
+unfolding found_at refused_at or_else
+returns c = record { refusal = λ t x l m p fit. c.tree_refusal.ensures ∙ sym (words_agree t _ _ x _ p fit l ∙ rw (sym c.first_misused.ensures, c.in_default.is)) }

@@ -25,9 +25,9 @@ returns-then-place c =
     let q = root_none c.args.nodes.now _ _ refl (omega arith) c.scope-place.ensures c.if-place.true in
     rw (q.0, q.1)
 
-pub overflow_sub-result : goal.overflow_sub-result
+pub overflow_sub-height : goal.overflow_sub-height
 unfolding innermost max_height
-overflow_sub-result c =
+overflow_sub-height c =
     let nodes = c.args.nodes.now in
     let h = root_high nodes _ _ refl (omega arith) c.scope-place.ensures c.if-place-eq-TOO_HIGH.true in
     omega (arith, height_above c.height-height.ensures h)
@@ -37,11 +37,11 @@ unfolding innermost refusal_of refused_at or_else max_height
 returns-then-place-eq-TOO_HIGH c =
     let nodes = c.args.nodes.now in
     let h = root_high nodes _ _ refl (omega arith) c.scope-place.ensures c.if-place-eq-TOO_HIGH.true in
-    rw (height_high c.height-height.ensures (height_above c.height-height.ensures h))
+    rw (c.at.ensures, height_high c.height-height.ensures (height_above c.height-height.ensures h))
 
 pub returns : goal.returns
 unfolding innermost refusal_of refused_at or_else max_height
 returns c =
     let nodes = c.args.nodes.now in
     let q = root_some nodes _ _ refl (omega arith) c.scope-place.ensures c.if-place.false c.if-place-eq-TOO_HIGH.false in
-    rw (q.0, q.1)
+    rw (c.at-2.ensures, q.0, q.1)
