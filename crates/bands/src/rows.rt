@@ -105,45 +105,25 @@ fn joins_before(rows: &Rows, count: u16, k: usize) -> bool
     start_at(rows.low, count, k) <= left_at(rows.high, k)
 }
 
-// The refusal by a cause at the first row that fails, if one does.
-#[tactic(auto, unfolding(script::specs::Verdicts::found_at, script::specs::Verdicts::refusal_of, lambdamix::specs::Refusal::refused_at))]
-fn refused_at(cause: Cause, failing: Option<usize>) -> Result<(), Refusal>
-    ensures { refusal_of result ≡ refused_at (cause_number cause) (found_at failing) }
-{
-    match failing {
-        None => Ok(()),
-        Some(place) => Err(cause.at(place)),
-    }
-}
-
 // 30: the first row that is not right by itself.
 fn wrong_row(count: u16, rows: &Rows) -> Result<(), Refusal>
     ensures { refusal_of result ≡ refused_at 30 (first_failing (λ k. band_right (band_at (rows_in count (columns_in rows.now)) k)) 0 count) }
 {
-    refused_at(
-        Cause::BadRow,
-        first_failing(count as usize, |k| row_right(rows, k)),
-    )
+    Cause::BadRow.at_first(first_failing(count as usize, |k| row_right(rows, k)))
 }
 
 // 31: the first row whose low is not above the row before's high.
 fn overlap(count: u16, rows: &Rows) -> Result<(), Refusal>
     ensures { refusal_of result ≡ refused_at 31 (first_failing (above_before (rows_in count (columns_in rows.now))) 0 count) }
 {
-    refused_at(
-        Cause::Overlap,
-        first_failing(count as usize, |k| above_before(rows, k)),
-    )
+    Cause::Overlap.at_first(first_failing(count as usize, |k| above_before(rows, k)))
 }
 
 // 32: the first row behind a gap, or the count of rows.
 fn gap(count: u16, rows: &Rows) -> Result<(), Refusal>
     ensures { refusal_of result ≡ refused_at 32 (first_failing (joins_before (rows_in count (columns_in rows.now))) 0 (suc count)) }
 {
-    refused_at(
-        Cause::Gap,
-        first_failing((count as usize) + 1, |k| joins_before(rows, count, k)),
-    )
+    Cause::Gap.at_first(first_failing((count as usize) + 1, |k| joins_before(rows, count, k)))
 }
 
 // All rows are tried for 30, then for 31, then for 32.

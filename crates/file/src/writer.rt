@@ -27,6 +27,7 @@ fn pair_at(out: &mut [u8], at: usize, first: u8, second: u8)
 }
 
 // A number of 16 bits at a place, the low byte first.
+#[tactic(auto, unfolding(script::specs::Bytes::bytes16))]
 fn word_at(out: &mut [u8], at: usize, v: u16)
     ensures { Put out.old at (bytes16 v) out.new }
 {
@@ -35,6 +36,7 @@ fn word_at(out: &mut [u8], at: usize, v: u16)
 }
 
 // A record of each kind at a place.
+#[tactic(auto, using(crate::proofs::WritingLaws::put_both, crate::proofs::WritingLaws::put_out), unfolding(crate::specs::Written::head_row, lambdamix::specs::Text::ascii, script::specs::Bytes::bytes16))]
 pub fn head_at(out: &mut [u8], at: usize, n: Counts)
     ensures { Put out.old at (head_row n.types n.inputs n.nodes) out.new }
 {
@@ -46,6 +48,7 @@ pub fn head_at(out: &mut [u8], at: usize, n: Counts)
     }
 }
 
+#[tactic(auto, using(crate::proofs::WritingLaws::put_both, crate::proofs::WritingLaws::put_out), unfolding(script::specs::File::type_bytes, lambdamix::specs::Text::ascii, script::specs::Bytes::bytes16))]
 fn type_at(out: &mut [u8], at: usize, parameter: TypeNumber, res: TypeNumber)
     ensures { Put out.old at (type_bytes (record { parameter = parameter.0; result = res.0 })) out.new }
 {
@@ -56,6 +59,7 @@ fn type_at(out: &mut [u8], at: usize, parameter: TypeNumber, res: TypeNumber)
     }
 }
 
+#[tactic(auto, using(crate::proofs::WritingLaws::put_both, crate::proofs::WritingLaws::put_out), unfolding(script::specs::File::input_bytes, lambdamix::specs::Text::ascii, script::specs::Bytes::bytes16))]
 fn input_at(out: &mut [u8], at: usize, input: TypeNumber)
     ensures { Put out.old at (input_bytes input.0) out.new }
 {
@@ -66,6 +70,7 @@ fn input_at(out: &mut [u8], at: usize, input: TypeNumber)
 }
 
 // Where the output has room: a number of 16 bits and one of 32, then a node's record by its parts. There is one test of the room for all thirteen bytes.
+#[tactic(auto, using(crate::proofs::WritingLaws::put_part), unfolding(script::specs::Bytes::bytes16))]
 fn word_inside(out: &mut [u8], at: usize, v: u16)
     requires { at + 2 ≤ length out.old }
     ensures { Put out.old at (bytes16 v) out.new }
@@ -73,6 +78,7 @@ fn word_inside(out: &mut [u8], at: usize, v: u16)
     out[at..at + 2].copy_from_slice(&v.to_le_bytes());
 }
 
+#[tactic(auto, using(crate::proofs::WritingLaws::put_part), unfolding(script::specs::Bytes::bytes32))]
 fn value_inside(out: &mut [u8], at: usize, w: u32)
     requires { at + 4 ≤ length out.old }
     ensures { Put out.old at (bytes32 w) out.new }

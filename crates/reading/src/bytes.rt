@@ -6,12 +6,14 @@ use script::column::at;
 use script::word::signed;
 
 // The byte at a place and the one after it.
+#[tactic(auto, using(crate::proofs::WordLaws::byte_behind), unfolding(script::specs::Bytes::byte_at))]
 pub(crate) fn pair(s: &[u8], i: usize) -> [u8; 2]
     ensures { result ≡ byte_at s.now i ∷ byte_at s.now (i + 1) ∷ [] }
 {
     [at(s, i, 0), at(s, i.saturating_add(1), 0)]
 }
 
+#[tactic(auto, unfolding(script::specs::Bytes::number16))]
 pub fn number16(s: &[u8], i: usize) -> u16
     ensures { result ≡ number16 s.now i }
 {
@@ -22,6 +24,7 @@ pub fn number16(s: &[u8], i: usize) -> u16
 const HALF: u32 = 65536;
 
 // By halves, as the definition `number32` has it.
+#[tactic(auto, using(crate::proofs::WordLaws::word_behind), unfolding(script::specs::Bytes::number32))]
 pub fn number32(s: &[u8], i: usize) -> u32
     ensures { result ≡ number32 s.now i }
 {

@@ -11,6 +11,7 @@ use script::search::first_failing;
 use script::{Counts, Name, NodeNumber, Refusal};
 
 // Whether the two letters stand at a place; past the end stand zeros.
+#[tactic(auto, unfolding(script::specs::Refusals::marked))]
 pub fn marked(file: &[u8], at: usize, x: u8, y: u8) -> bool
     ensures { result ≡ marked x y file.now at }
 {

@@ -22,6 +22,7 @@ use script::{Counts, Name, NodeNumber, Refusal};
 use tables::refusal::tables_refusal;
 
 // The counts in a file's head.
+#[tactic(auto, unfolding(script::specs::Replies::head_counts, script::specs::File::head_types, script::specs::File::head_inputs, script::specs::File::head_nodes))]
 pub fn head_counts(file: &[u8]) -> Counts
     ensures { result ≡ head_counts file.now }
 {
@@ -32,24 +33,16 @@ pub fn head_counts(file: &[u8]) -> Counts
     }
 }
 
-// What is refused unless something holds.
-#[tactic(auto, unfolding(script::specs::Verdicts::refusal_of, lambdamix::specs::Refusal::refused_unless))]
-fn refuse_unless(holds: bool, cause: Cause, place: usize) -> Result<(), Refusal>
-    ensures { refusal_of result ≡ refused_unless holds (cause_number cause) place }
-{
-    if holds { Ok(()) } else { Err(cause.at(place)) }
-}
-
 // "1 (below 8), 2 and 3 for the head, 1 for the total"
 fn head_refusal(file: &[u8]) -> Result<(), Refusal>
     ensures { refusal_of result ≡ head_refusal file.now }
 {
     let length = file.len();
-    refuse_unless(8 <= length, Cause::WrongLength, length)?;
-    refuse_unless(marked(file, 0, b'H', b'D'), Cause::WrongMark, 0)?;
+    Cause::WrongLength.unless(8 <= length, length)?;
+    Cause::WrongMark.unless(marked(file, 0, b'H', b'D'), 0)?;
     let n = head_counts(file);
-    refuse_unless(counts_right(n), Cause::WrongCount, 0)?;
-    refuse_unless(length == file_size(n), Cause::WrongLength, length)
+    Cause::WrongCount.unless(counts_right(n), 0)?;
+    Cause::WrongLength.unless(length == file_size(n), length)
 }
 
 // Where a field of a record stands.
@@ -99,6 +92,7 @@ fn fill_tables(
 
 // Of a wrong mark and what the tables are refused by: a bad record (3 to 5) at a lower offset, else the mark. No `?`: the choice
 // looks at both.
+#[tactic(auto, unfolding(crate::specs::Heads::marks_first, script::specs::Refusals::earlier_by, script::specs::Verdicts::refusal_of))]
 fn marks_first(marks: Result<(), Refusal>, told: Result<(), Refusal>) -> Result<(), Refusal>
     ensures { refusal_of result ≡ marks_first (refusal_of marks) (refusal_of told) }
 {
@@ -145,7 +139,7 @@ fn reply(file: &[u8], columns: &Columns) -> Result<Counts, Refusal>
 {
     check_file(file)?;
     let n = head_counts(file);
-    refuse_unless(columns.hold(n), Cause::OutputTooShort, 0)?;
+    Cause::OutputTooShort.unless(columns.hold(n), 0)?;
     Ok(n)
 }
 

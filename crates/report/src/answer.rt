@@ -20,7 +20,7 @@ fn answer(input: &[u8], out: &mut [u8]) -> usize
     let mut tables = ScriptTables::new();
     match read_tables(script, &mut tables) {
         Ok(n) => print_reply(out, run_given(n, &tables.columns(), rest)),
-        Err(f) => print_unfinished(out, f.number, f.place),
+        Err(f) => print_unfinished(out, f),
     }
 }
 

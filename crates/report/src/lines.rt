@@ -7,7 +7,7 @@ ghost use Rattle.streams.specs.Printed.{Prints};
 ghost use Rattle.report.specs.Report.{steps_text, outcome_text, reply_text, unfinished_text};
 
 use plainrun::{Finished, Value};
-use script::Unfinished;
+use script::{Refusal, Unfinished};
 use streams::print::print_pair;
 use text::decimals::{decimal_at, digits_at};
 use text::parts::{letter_at, text_at};
@@ -42,21 +42,22 @@ fn print_finished(out: &mut [u8], done: Finished) -> usize
 }
 
 // "`refused N P` alone, or `stopped N P` alone": the other program's lines have `accepted` before a stop.
-pub(crate) fn print_unfinished(out: &mut [u8], number: u8, place: usize) -> usize
-    ensures { Prints (unfinished_text (ltb number 20) number place) out.old out.new result }
+pub(crate) fn print_unfinished(out: &mut [u8], f: Refusal) -> usize
+    ensures { Prints (unfinished_text (ltb f.number 20) f.number f.place) out.old out.new result }
 {
-    if number < 20 {
-        return print_pair(out, b"refused ", number as u32, b" ", place as u64);
+    if f.number < 20 {
+        return print_pair(out, b"refused ", f.number as u32, b" ", f.place as u64);
     }
-    print_pair(out, b"stopped ", number as u32, b" ", place as u64)
+    print_pair(out, b"stopped ", f.number as u32, b" ", f.place as u64)
 }
 
 // The lines of a reply.
+#[tactic(auto, unfolding(plainrun::specs::Running::replied, crate::specs::Report::reply_text))]
 pub(crate) fn print_reply(out: &mut [u8], reply: Result<Finished, Unfinished>) -> usize
     ensures { Prints (reply_text (replied reply)) out.old out.new result }
 {
     match reply {
         Ok(done) => print_finished(out, done),
-        Err(u) => print_unfinished(out, u.refusal.number, u.refusal.place),
+        Err(u) => print_unfinished(out, u.refusal),
     }
 }

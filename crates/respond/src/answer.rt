@@ -20,7 +20,7 @@ fn answer(input: &[u8], out: &mut [u8]) -> usize
     let mut tables = ScriptTables::new();
     match read_tables(script, &mut tables) {
         Ok(n) => answer_script(n, &tables.columns(), rest, out),
-        Err(f) => print_unmade(out, f.number, f.place),
+        Err(f) => print_unmade(out, f),
     }
 }
 

@@ -62,6 +62,7 @@ fn list_file(file: &[u8], out: &mut [u8], at: usize) -> usize
 }
 
 // Finished code, of a count of inputs, from the file that the maker wrote.
+#[tactic(auto, using(crate::proofs::Holding::made_printed))]
 fn print_made(inputs: u16, made: Made, file: &[u8], out: &mut [u8]) -> usize
     ensures { PrintsMade inputs made.steps made.nodes file.now out.old out.new result }
 {
@@ -82,6 +83,6 @@ pub(crate) fn answer_script(n: Counts, columns: &Columns, rest: &[u8], out: &mut
     let mut file = [0; MAX_BYTES];
     match make_given(n, columns, rest, &mut file) {
         Ok(made) => print_made(n.inputs, made, &file, out),
-        Err(u) => print_unmade(out, u.refusal.number, u.refusal.place),
+        Err(u) => print_unmade(out, u.refusal),
     }
 }

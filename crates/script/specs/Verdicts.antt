@@ -1,4 +1,4 @@
--- What inner functions answer, as proofs use it: what a search found, what a verdict refuses, and the answers that have a reply. No public contract
+-- What inner functions answer, as proofs use it: what a search found, what a verdict refuses, and the answers that have a reply. No entry's contract
 -- cites this file. Assumes nothing.
 use Rattle.std.specs.Prelude.{ℕ, ◌<◌, List, ◌≡◌, Err, None, Ok, Some}
 use Rattle.std.proofs.Math.Option.{Option, none, some}

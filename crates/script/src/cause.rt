@@ -1,6 +1,8 @@
 // Why a call is refused, by name, and the paper's number of each cause. Stops are told by their reasons.
 ghost use Rattle.std.specs.Prelude.{◌≡◌};
+ghost use Rattle.lambdamix.specs.Refusal.{refused_at, refused_unless};
 ghost use Rattle.script.specs.Causes.{cause_number, refused_by};
+ghost use Rattle.script.specs.Verdicts.{found_at, refusal_of};
 
 use crate::Refusal;
 
@@ -62,6 +64,25 @@ impl Cause {
         Refusal {
             number: self.number(),
             place,
+        }
+    }
+
+    // Refused at a place unless something holds.
+    #[tactic(auto, unfolding(crate::specs::Verdicts::refusal_of, lambdamix::specs::Refusal::refused_unless))]
+    pub fn unless(self, holds: bool, place: usize) -> Result<(), Refusal>
+        ensures { refusal_of result ≡ refused_unless holds (cause_number self) place }
+    {
+        if holds { Ok(()) } else { Err(self.at(place)) }
+    }
+
+    // Refused at the first place that fails, if one does.
+    #[tactic(auto, unfolding(crate::specs::Verdicts::refusal_of, crate::specs::Verdicts::found_at, lambdamix::specs::Refusal::refused_at))]
+    pub fn at_first(self, failing: Option<usize>) -> Result<(), Refusal>
+        ensures { refusal_of result ≡ refused_at (cause_number self) (found_at failing) }
+    {
+        match failing {
+            None => Ok(()),
+            Some(place) => Err(self.at(place)),
         }
     }
 }

@@ -4,6 +4,7 @@ ghost use Rattle.text.specs.Places.{Placed};
 ghost use Rattle.streams.specs.Lines.{pair_text, unmade_text};
 ghost use Rattle.streams.specs.Printed.{CountsPlaced, Prints};
 
+use script::Refusal;
 use text::decimals::{digits_at, long_at};
 use text::parts::{letter_at, text_at};
 
@@ -20,18 +21,18 @@ pub fn print_pair(out: &mut [u8], opening: &[u8], x: u32, middle: &[u8], y: u64)
 
 // "`refused 9 4` (number, place) alone, or `accepted` and `stopped 24 2`, each on its own line"
 #[tactic(auto, using(crate::proofs::Lines::unmade_refused, crate::proofs::Lines::unmade_stopped, crate::proofs::Lines::unmade_within), unfolding(lambdamix::specs::Text::ascii))]
-pub fn print_unmade(out: &mut [u8], number: u8, place: usize) -> usize
-    ensures { Prints (unmade_text (ltb number 20) number place) out.old out.new result }
+pub fn print_unmade(out: &mut [u8], f: Refusal) -> usize
+    ensures { Prints (unmade_text (ltb f.number 20) f.number f.place) out.old out.new result }
 {
-    if number < 20 {
-        return print_pair(out, b"refused ", number as u32, b" ", place as u64);
+    if f.number < 20 {
+        return print_pair(out, b"refused ", f.number as u32, b" ", f.place as u64);
     }
     print_pair(
         out,
         b"accepted\nstopped ",
-        number as u32,
+        f.number as u32,
         b" ",
-        place as u64,
+        f.place as u64,
     )
 }
 

@@ -10,6 +10,6 @@ use Rattle.bands.proofs.rows.gap.Goals as goal
 pub returns : goal.returns
 returns c =
     let x = columns_in c.args.rows.now in
-    c.refused_at.ensures
+    c.at_first.ensures
     ∙ ap (refused_at 32)
     (rw add-one at (c.first_failing.ensures (joins_before (rows_in c.args.count x)) (λ j b l q. joins_told _ x.low x.high x.grade (rw add-one at l) (search rules))))

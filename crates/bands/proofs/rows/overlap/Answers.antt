@@ -10,6 +10,6 @@ use Rattle.bands.proofs.rows.overlap.Goals as goal
 pub returns : goal.returns
 returns c =
     let x = columns_in c.args.rows.now in
-    c.refused_at.ensures
+    c.at_first.ensures
     ∙ ap (refused_at 31)
     (c.first_failing.ensures (above_before (rows_in c.args.count x)) (λ j b l q. above_told _ x.low x.high x.grade l (search rules)))

@@ -10,5 +10,5 @@ use Rattle.bands.proofs.rows.wrong_row.Goals as goal
 pub returns : goal.returns
 returns c =
     let x = columns_in c.args.rows.now in
-    c.refused_at.ensures
+    c.at_first.ensures
     ∙ ap (refused_at 30) (c.first_failing.ensures (λ k. band_right (band_at (rows_in c.args.count x) k)) (λ j b l q. right_told _ x l (search rules)))

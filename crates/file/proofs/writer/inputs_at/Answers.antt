@@ -2,7 +2,7 @@
 use native.Mathlib.Omega.{arith}
 use Rattle.script.specs.File.{input_bytes, input_offset}
 use Rattle.file.proofs.Layouts.{input_layout}
-use Rattle.file.proofs.WritingLaws.{put_no_record, put_record, put_records}
+use Rattle.file.proofs.WritingLaws.{put_no_record, put_record}
 use Rattle.file.proofs.writer.inputs_at.Goals as goal
 
 pub loop-j-init : goal.loop-j-init
@@ -13,6 +13,3 @@ unfolding input_offset
 loop-j-preserved c =
     put_record input_layout _ _ _ c.loop-j.invariant (omega (arith, c.input_offset.ensures)) (λ x. input_bytes (c.type_at-input.ensures x))
     c.input_at.ensures
-
-pub returns : goal.returns
-returns c = put_records input_layout _ _ c.loop-j.invariant c.loop-j.auto.j-end c.loop-j-test.false

@@ -5,7 +5,7 @@ use mir.Syntax.{w32}
 use mir.Facts.{to_z-of_z}
 use Rattle.script.specs.File.{node_bytes, node_offset, file_length}
 use Rattle.file.proofs.Layouts.{node_sized, node_layout}
-use Rattle.file.proofs.WritingLaws.{put_there, put_no_record, put_record, put_records}
+use Rattle.file.proofs.WritingLaws.{put_there, put_no_record, put_record}
 use Rattle.file.proofs.writer.nodes_at.Goals as goal
 
 pub loop-j-init : goal.loop-j-init
@@ -21,6 +21,3 @@ loop-j-preserved c =
       c = c.at-c.ensures x;
       value = (to_z-of_z {w = w32} (record { sfits = c.at-value.type_inv }) ∙ c.at-value.ensures) x;
     })) (put_there (node_sized _) (omega (arith, c.requires, c.node_offset-place.ensures)) c.node_at.ensures)
-
-pub returns : goal.returns
-returns c = put_records node_layout _ _ c.loop-j.invariant c.loop-j.auto.j-end c.loop-j-test.false

@@ -2,7 +2,7 @@
 use native.Mathlib.Omega.{arith}
 use Rattle.script.specs.File.{type_bytes, type_offset}
 use Rattle.file.proofs.Layouts.{type_layout}
-use Rattle.file.proofs.WritingLaws.{put_no_record, put_record, put_records}
+use Rattle.file.proofs.WritingLaws.{put_no_record, put_record}
 use Rattle.file.proofs.writer.types_at.Goals as goal
 
 pub loop-j-init : goal.loop-j-init
@@ -13,6 +13,3 @@ unfolding type_offset
 loop-j-preserved c =
     put_record type_layout _ _ _ c.loop-j.invariant (omega (arith, c.type_offset.ensures))
     (λ x. type_bytes (record { parameter = c.type_at-parameter.ensures x; result = c.type_at-res.ensures x })) c.type_at.ensures
-
-pub returns : goal.returns
-returns c = put_records type_layout _ _ c.loop-j.invariant c.loop-j.auto.j-end c.loop-j-test.false

@@ -1,6 +1,6 @@
 -- `reading::fill::fill` meets its contract: the loop fills. Assumes nothing.
 use native.Mathlib.Omega.{arith}
-use Rattle.reading.proofs.Filling.{fill_begins, fill_goes_on, fill_ends}
+use Rattle.reading.proofs.Filling.{fill_begins, fill_goes_on}
 use Rattle.reading.proofs.fill.fill.Goals as goal
 
 pub loop-j-init : goal.loop-j-init
@@ -9,6 +9,3 @@ loop-j-init g c = λ f h. fill_begins f _
 pub loop-j-preserved : goal.loop-j-preserved
 loop-j-preserved g c =
     λ f h. fill_goes_on f _ (c.loop-j.invariant f h) (omega (arith, c.requires.enough)) (h _ _ c.loop-j-test.true c.element.ensures)
-
-pub returns : goal.returns
-returns g c = λ f h. fill_ends f _ (c.loop-j.invariant f h) c.loop-j.auto.j-end c.loop-j-test.false

@@ -11,34 +11,34 @@ use Rattle.script.proofs.Verdicts.{refused_tells_first, passed_tells_next}
 use Rattle.reading.proofs.HeadLaws.{counts_told, length_told}
 use Rattle.reading.proofs.reader.head_refusal.Goals as goal
 
-pub returns-in_err-refuse_unless : goal.returns-in_err-refuse_unless
+pub returns-in_err-unless : goal.returns-in_err-unless
 unfolding head_refusal
-returns-in_err-refuse_unless c =
-    refused_tells_first c.refuse_unless.ensures _ c.in_err-refuse_unless.was (search rules)
+returns-in_err-unless c =
+    refused_tells_first c.unless.ensures _ c.in_err-unless.was (search rules)
 
-pub returns-in_err-refuse_unless-2 : goal.returns-in_err-refuse_unless-2
+pub returns-in_err-unless-2 : goal.returns-in_err-unless-2
 unfolding head_refusal
-returns-in_err-refuse_unless-2 c =
-    let mark = c.refuse_unless-2.ensures ∙ ap (λ (b : Bool). refused_unless b 2 0) c.marked.ensures in
-    passed_tells_next c.refuse_unless.ensures c.in_ok-refuse_unless.was
-    (refused_tells_first mark _ c.in_err-refuse_unless-2.was (search rules))
+returns-in_err-unless-2 c =
+    let mark = c.unless-2.ensures ∙ ap (λ (b : Bool). refused_unless b 2 0) c.marked.ensures in
+    passed_tells_next c.unless.ensures c.in_ok-unless.was
+    (refused_tells_first mark _ c.in_err-unless-2.was (search rules))
 
-pub returns-in_err-refuse_unless-3 : goal.returns-in_err-refuse_unless-3
+pub returns-in_err-unless-3 : goal.returns-in_err-unless-3
 unfolding head_refusal
-returns-in_err-refuse_unless-3 c =
-    let mark = c.refuse_unless-2.ensures ∙ ap (λ (b : Bool). refused_unless b 2 0) c.marked.ensures in
-    let counts = c.refuse_unless-3.ensures ∙ ap (λ (b : Bool). refused_unless b 3 0) (counts_told _ c.head_counts-n.ensures c.counts_right.ensures) in
-    passed_tells_next c.refuse_unless.ensures c.in_ok-refuse_unless.was
-    (passed_tells_next mark c.in_ok-refuse_unless-2.was (refused_tells_first counts _ c.in_err-refuse_unless-3.was (search rules)))
+returns-in_err-unless-3 c =
+    let mark = c.unless-2.ensures ∙ ap (λ (b : Bool). refused_unless b 2 0) c.marked.ensures in
+    let counts = c.unless-3.ensures ∙ ap (λ (b : Bool). refused_unless b 3 0) (counts_told _ c.head_counts-n.ensures c.counts_right.ensures) in
+    passed_tells_next c.unless.ensures c.in_ok-unless.was
+    (passed_tells_next mark c.in_ok-unless-2.was (refused_tells_first counts _ c.in_err-unless-3.was (search rules)))
 
 pub returns : goal.returns
 unfolding head_refusal
 returns c =
-    let mark = c.refuse_unless-2.ensures ∙ ap (λ (b : Bool). refused_unless b 2 0) c.marked.ensures in
-    let counts = c.refuse_unless-3.ensures ∙ ap (λ (b : Bool). refused_unless b 3 0) (counts_told _ c.head_counts-n.ensures c.counts_right.ensures) in
+    let mark = c.unless-2.ensures ∙ ap (λ (b : Bool). refused_unless b 2 0) c.marked.ensures in
+    let counts = c.unless-3.ensures ∙ ap (λ (b : Bool). refused_unless b 3 0) (counts_told _ c.head_counts-n.ensures c.counts_right.ensures) in
     let total =
-    c.refuse_unless-4.ensures
+    c.unless-4.ensures
     ∙ ap (λ (k : ℕ). refused_unless (eqb (length c.args.file.now) k) 1 (length c.args.file.now)) (length_told _ c.head_counts-n.ensures c.file_size.ensures)
     in
-    passed_tells_next c.refuse_unless.ensures c.in_ok-refuse_unless.was
-    (passed_tells_next mark c.in_ok-refuse_unless-2.was (passed_tells_next counts c.in_ok-refuse_unless-3.was total))
+    passed_tells_next c.unless.ensures c.in_ok-unless.was
+    (passed_tells_next mark c.in_ok-unless-2.was (passed_tells_next counts c.in_ok-unless-3.was total))

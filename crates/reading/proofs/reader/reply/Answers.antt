@@ -14,14 +14,14 @@ unfolding read_reply
 returns-in_err-check_file c =
     reads_refused (refused_tells_first (tells_refusal c.check_file.ensures) _ c.in_err-check_file.was c.in_err-check_file.was) _ c.in_err-check_file.was (search rules)
 
-pub returns-in_err-refuse_unless : goal.returns-in_err-refuse_unless
+pub returns-in_err-unless : goal.returns-in_err-unless
 unfolding read_reply
-returns-in_err-refuse_unless c =
-    let long = c.refuse_unless.ensures ∙ ap (λ (b : Bool). refused_unless b 21 0) (long_told _ _ c.head_counts-n.ensures c.hold.ensures) in
-    reads_refused (passed_tells_next (tells_refusal c.check_file.ensures) c.in_ok-check_file.was long) _ c.in_err-refuse_unless.was (search rules)
+returns-in_err-unless c =
+    let long = c.unless.ensures ∙ ap (λ (b : Bool). refused_unless b 21 0) (long_told _ _ c.head_counts-n.ensures c.hold.ensures) in
+    reads_refused (passed_tells_next (tells_refusal c.check_file.ensures) c.in_ok-check_file.was long) _ c.in_err-unless.was (search rules)
 
 pub returns : goal.returns
 unfolding read_reply
 returns c =
-    let long = c.refuse_unless.ensures ∙ ap (λ (b : Bool). refused_unless b 21 0) (long_told _ _ c.head_counts-n.ensures c.hold.ensures) in
-    reads_passed (passed_tells_next (tells_refusal c.check_file.ensures) c.in_ok-check_file.was long) c.in_ok-refuse_unless.was c.head_counts-n.ensures
+    let long = c.unless.ensures ∙ ap (λ (b : Bool). refused_unless b 21 0) (long_told _ _ c.head_counts-n.ensures c.hold.ensures) in
+    reads_passed (passed_tells_next (tells_refusal c.check_file.ensures) c.in_ok-check_file.was long) c.in_ok-unless.was c.head_counts-n.ensures

@@ -7,9 +7,6 @@ use Rattle.streams.proofs.Responding.{input_answered, answered_read, answered_re
 use Rattle.report.proofs.Answering.{tells_refused, answered_ran}
 use Rattle.report.proofs.answer.answer.Goals as goal
 
-pub split_at-requires : goal.split_at-requires
-split_at-requires c = end_within _ _ c.script_end.ensures
-
 pub returns-in-Ok : goal.returns-in-Ok
 unfolding byte_at
 returns-in-Ok c =

@@ -2,13 +2,9 @@
 use native.Mathlib.Omega.{arith}
 use Rattle.script.specs.Bytes.{byte_at}
 use Rattle.streams.proofs.Files.{blank_long}
-use Rattle.streams.proofs.Splitting.{end_within}
 use Rattle.streams.proofs.Responding.{input_answered, answered_read, answered_refused}
 use Rattle.respond.proofs.Making.{tells_refused}
 use Rattle.respond.proofs.answer.answer.Goals as goal
-
-pub split_at-requires : goal.split_at-requires
-split_at-requires c = end_within _ _ c.script_end.ensures
 
 pub returns-in-Ok : goal.returns-in-Ok
 unfolding byte_at
