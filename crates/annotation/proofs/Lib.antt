@@ -8,3 +8,4 @@ pub mod Recursion
 pub mod Filling
 pub mod Root
 pub mod Acceptance
+pub mod Told

@@ -12,7 +12,7 @@ use script::{Counts, Refusal};
 use tables::refusal::tables_packed;
 
 // The check in words for so many nodes: as many as the script has, or as a script may have.
-#[tactic(auto, unfolding(lambdamix::specs::Limits::max_nodes))]
+#[tactic(auto, using(crate::proofs::Told::check_refused, crate::proofs::Told::check_passed), unfolding(lambdamix::specs::Limits::max_nodes))]
 fn check_sized<const N: usize>(n: Counts, columns: &Columns) -> Result<(), Refusal>
     requires enough { min n.nodes max_nodes ≤ N }
     requires few { N ≤ max_nodes }

@@ -350,6 +350,7 @@ fn bind_inputs(inputs: &[u16], count: u16, stack: &mut [u32])
 }
 
 // The verdict on the root i, whose answer is r: it must be D.
+#[tactic(auto, using(crate::proofs::Told::root_fault, crate::proofs::Told::root_late, crate::proofs::Told::root_early), unfolding(script::specs::Verdicts::refusal_of))]
 fn verdict(i: NodeNumber, r: u32) -> Result<(), Refusal>
     ensures { refusal_of result ≡ root_answer i.0 r }
 {

@@ -3,7 +3,7 @@ ghost use Rattle.script.specs.Verdicts.{Fitted};
 ghost use Rattle.bands.specs.Calls.{columns_in, band_bytes, MakesBands};
 ghost use Rattle.bands.specs.Steps.{Writable};
 
-use crate::nodes::fill_nodes;
+use crate::nodes::{BandColumns, fill_nodes};
 use crate::rows::{Rows, columns_refusal};
 use file::writer::write;
 use script::columns::Columns;
@@ -15,7 +15,8 @@ fn write_script(count: u16, rows: &Rows, out: &mut [u8]) -> Result<usize, Refusa
     requires { Writable count (columns_in rows.now) }
     ensures { Fitted (band_bytes count (columns_in rows.now)) out.old out.new result }
 {
-    let nodes = fill_nodes(count, rows);
+    let mut nodes = BandColumns::new();
+    fill_nodes(count, rows, &mut nodes);
     let n = Counts {
         types: 0,
         inputs: 1,

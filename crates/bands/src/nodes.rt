@@ -29,7 +29,7 @@ pub(crate) struct BandColumns {
 
 impl BandColumns {
     // Zeros in every place.
-    fn new() -> Self
+    pub(crate) fn new() -> Self
         ensures { Long MAX_BAND_NODES result.kinds result.a result.b result.c result.values }
     {
         BandColumns {
@@ -148,15 +148,14 @@ fn node(count: u16, rows: &Rows, i: NodeNumber) -> BandNode
     )
 }
 
-// All nodes of the script, from the first on, in columns that are long enough.
-pub(crate) fn fill_nodes(count: u16, rows: &Rows) -> BandColumns
-    requires { RowCount count }
-    ensures held { HoldsNodes count (columns_in rows.now) (band_nodes count) result.kinds result.a result.b result.c result.values }
-    ensures long { Long (band_nodes count) result.kinds result.a result.b result.c result.values }
+// All nodes of the script, from the first on, into columns that are long enough.
+pub(crate) fn fill_nodes(count: u16, rows: &Rows, columns: &mut BandColumns)
+    requires row_count { RowCount count }
+    requires long { Long (band_nodes count) columns.old.kinds columns.old.a columns.old.b columns.old.c columns.old.values }
+    ensures held { HoldsNodes count (columns_in rows.now) (band_nodes count) columns.new.kinds columns.new.a columns.new.b columns.new.c columns.new.values }
+    ensures long { Long (band_nodes count) columns.new.kinds columns.new.a columns.new.b columns.new.c columns.new.values }
 {
-    let mut nodes = BandColumns::new();
     for i in 0..7 * count - 5 {
-        nodes.put(i as usize, node(count, rows, NodeNumber(i)));
+        columns.put(i as usize, node(count, rows, NodeNumber(i)));
     }
-    nodes
 }

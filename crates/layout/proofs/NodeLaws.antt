@@ -51,11 +51,11 @@ module _ (n : ℕ) (self : ℕ → List ℕ) (s : Bool) (f : ℕ) where
 abbrev pub no_uses : Row
 no_uses = record { 0 = Nothing; 1 = Nothing; 2 = Nothing }
 
-past_value : (k : ℕ) → 13 ≤ k → word_of k ≡ Value
+pub past_value : (k : ℕ) → 13 ≤ k → word_of k ≡ Value
 unfolding word_of step_of step_word rows
 past_value k h = rw (blank_row_lem h)
 
-past_uses : (k : ℕ) → 13 ≤ k → row_at k ≡ no_uses
+pub past_uses : (k : ℕ) → 13 ≤ k → row_at k ≡ no_uses
 unfolding row_at
 past_uses k h = rw (past_rows k 0 h, past_rows k 1 h, past_rows k 2 h)
 

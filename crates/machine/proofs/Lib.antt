@@ -10,3 +10,4 @@ pub mod Binding
 pub mod Zeros
 pub mod Inputs
 pub mod Root
+pub mod Exact

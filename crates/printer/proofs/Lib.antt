@@ -1,3 +1,4 @@
 pub mod Printed
 pub mod OwnBytes
 pub mod ListingBound
+pub mod Told

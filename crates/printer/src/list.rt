@@ -28,7 +28,7 @@ fn list_words(n: Counts, words: &[u64], out: &mut [u8]) -> Result<usize, Refusal
 }
 
 // With words for at most N nodes.
-#[tactic(auto, unfolding(lambdamix::specs::Limits::max_nodes))]
+#[tactic(auto, using(crate::proofs::Told::refused_reply, crate::proofs::Told::refused_output, crate::proofs::Told::passed_reply, crate::proofs::Told::passed_output), unfolding(lambdamix::specs::Limits::max_nodes))]
 fn list_sized<const N: usize>(
     n: Counts,
     columns: &Columns,

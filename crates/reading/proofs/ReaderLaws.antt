@@ -224,3 +224,18 @@ module _ (bs : List ℕ) (x : Tables) {r : Reading} (told : r ≡ read_reply bs 
   reads_none o q =
       let (g, e) = refused o in
       record { reply = replies (q ∙ sym o); tables = rw e }
+
+-- ---- the same, each equation as grind reads it
+
+module _ (bs : List ℕ) (x : Tables) where
+  pub reply_told : replying (read_refusal bs x) (head_counts bs) ≡ reading_reply (read_reply bs (long_for bs x))
+  reply_told = sym (replies bs x refl refl)
+
+  pub refused_leaves : (f : Refusal) → read_reply bs (long_for bs x) ≡ Err f → read_tables (read_refusal bs x) bs x ≡ x
+  refused_leaves f o = let r = reads_none bs x {r = Err f} (sym o) refl refl in sym r.tables
+
+  pub read_fills : (n : Counts) → read_reply bs (long_for bs x) ≡ Ok n → read_tables (read_refusal bs x) bs x ≡ filled (script_by n bs) x
+  read_fills n o = let r = reads_by bs x {r = Ok n} (sym o) (filled (script_by n bs) x) refl refl refl in sym r.tables
+
+  pub read_fits : (n : Counts) → read_reply bs (long_for bs x) ≡ Ok n → FillFits n x
+  read_fits n o = counts_fit bs x {r = Ok n} (sym o) refl

@@ -144,6 +144,7 @@ fn reply(file: &[u8], columns: &Columns) -> Result<Counts, Refusal>
 }
 
 // Refusals 1 to 8, then 21; what is not refused fills the lent tables, which are lent one by one: the C interface.
+#[tactic(auto, using(crate::proofs::ReaderLaws::reply_told, crate::proofs::ReaderLaws::refused_leaves, crate::proofs::ReaderLaws::read_fills, crate::proofs::ReaderLaws::read_fits, std::proofs::lemmas::List::set_past))]
 pub fn read(
     file: &[u8],
     parameters: &mut [u16],

@@ -30,6 +30,7 @@ fn same_piece(v: Use, g: u16, f: u16) -> bool
 }
 
 // A piece once more, which took the room to what is left: it takes as much again, if that is there.
+#[tactic(auto, using(crate::proofs::Charging::again))]
 fn charge_again(room: u16, left: u16) -> u16
     requires { left ≤ room }
     ensures { (c : Code) (h : ℕ) → room_of left ≡ charge_one c (room_of room) h → room_of result ≡ charge_one c (room_of left) h }

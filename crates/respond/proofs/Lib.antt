@@ -6,3 +6,4 @@ pub mod Making
 pub mod Answering
 pub mod Longer
 pub mod InputA
+pub mod Calls

@@ -25,6 +25,7 @@ fn answer(input: &[u8], out: &mut [u8]) -> usize
 }
 
 // Every input is answered by the bytes that the program prints for it. An output that may be too short for them is 21, before all else.
+#[tactic(auto, using(crate::proofs::Calls::input_written, crate::proofs::Calls::short_told, crate::proofs::Calls::short_left), unfolding(crate::specs::Response::response, lambdamix::specs::Limits::max_bytes))]
 pub fn respond(input: &[u8], out: &mut [u8]) -> Result<usize, Refusal>
     ensures { Responds (response input.now) out.old out.new result }
 {

@@ -1,4 +1,4 @@
-// A search for the first place at which a test fails: every check of records in a row is one.
+// A search for the first place at which a test fails: each check of records in a row is one, but for that of a script's nodes, which packs them as it goes.
 ghost use Rattle.std.specs.Prelude.{◌≡◌, ◌<◌, ℕ, Bool};
 ghost use Rattle.lambdamix.specs.Refusal.{first_failing};
 ghost use Rattle.script.specs.Verdicts.{found_at};

@@ -14,6 +14,9 @@ pub const LIMIT_16: u64 = 65536;
 
 pub const LIMIT_32: u64 = 4294967296;
 
+// Bits below this are those of a number from 0 up.
+pub const SIGNED_LIMIT: u32 = 2147483648;
+
 // The units of a word's kind, of field a and of field b; field c stands lowest.
 const KIND_UNIT: u64 = 281474976710656;
 

@@ -160,16 +160,16 @@ second_place {h = h} {g = g} l k (over_limit {j = i} e a c) (over_limit {j = j} 
     rw (lowest_second i j (omega arith)) (over_limit {h = max h g} f (omega arith) d)
 
 module _ {p q : ℕ} where
-  join_second : p < q → p ≤ max_height → HeightJoin p q q
+  pub join_second : p < q → p ≤ max_height → HeightJoin p q q
   join_second l k = record { joined = λ h g t u. after_height (omega arith) k }
 
-  join_first : q ≤ p → q ≤ max_height → HeightJoin p q p
+  pub join_first : q ≤ p → q ≤ max_height → HeightJoin p q p
   join_first l k = record { joined = λ h g t u. before_height l k }
 
-  join_places_first : p < q → max_height < p → HeightJoin p q p
+  pub join_places_first : p < q → max_height < p → HeightJoin p q p
   join_places_first l k = record { joined = λ h g t u. first_place l k }
 
-  join_places_second : q ≤ p → max_height < q → HeightJoin p q q
+  pub join_places_second : q ≤ p → max_height < q → HeightJoin p q q
   join_places_second l k = record { joined = λ h g t u. second_place l k }
 
   -- the higher number where one is a height, else the lower

@@ -3,8 +3,12 @@ use mathlib.Core.Path.{refl}
 use native.Mathlib.Omega.{arith}
 use Rattle.bands.specs.Rows.{max_rows}
 use Rattle.bands.specs.BandScript.{band_nodes}
+use Rattle.bands.proofs.Filling.{long_by}
 use Rattle.bands.proofs.Writing.{script_written}
 use Rattle.bands.proofs.maker.write_script.Goals as goal
+
+pub fill_nodes-requires-clause-long : goal.fill_nodes-requires-clause-long
+fill_nodes-requires-clause-long c = long_by c.requires.count c.new-nodes.ensures
 
 pub overflow_mul-n : goal.overflow_mul-n
 unfolding max_rows
@@ -12,4 +16,4 @@ overflow_mul-n c = omega (arith, c.requires.count.few)
 
 pub returns : goal.returns
 unfolding band_nodes
-returns c = script_written _ _ c.requires c.fill_nodes-nodes.ensures.held c.fill_nodes-nodes.ensures.long refl c.write.ensures
+returns c = script_written _ _ c.requires c.fill_nodes.ensures.held c.fill_nodes.ensures.long refl c.write.ensures

@@ -3,15 +3,15 @@ use mathlib.Core.Path.{refl}
 use native.Mathlib.Omega.{arith}
 use Rattle.bands.specs.Rows.{max_rows}
 use Rattle.bands.specs.BandScript.{band_nodes}
-use Rattle.bands.proofs.Filling.{fill_begins, fill_goes_on, fill_ends, fill_long, long_by}
+use Rattle.bands.proofs.Filling.{fill_begins, fill_goes_on, fill_ends, fill_long}
 use Rattle.bands.proofs.nodes.fill_nodes.Goals as goal
 
 pub overflow_mul-i-end : goal.overflow_mul-i-end
 unfolding max_rows
-overflow_mul-i-end c = omega (arith, c.requires.few)
+overflow_mul-i-end c = omega (arith, c.requires.row_count.few)
 
 pub loop-i-init : goal.loop-i-init
-loop-i-init c = fill_begins _ _ _ _ _ _ _ (long_by c.requires c.new-nodes.ensures)
+loop-i-init c = fill_begins _ _ _ _ _ _ _ c.requires.long
 
 pub node-requires-clause-i_bound : goal.node-requires-clause-i_bound
 unfolding band_nodes

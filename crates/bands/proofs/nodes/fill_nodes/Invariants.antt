@@ -5,5 +5,5 @@ use Rattle.bands.proofs.nodes.fill_nodes.Given as goal
 
 abbrev pub invariant-loop-i : goal.invariant-loop-i
 invariant-loop-i l =
-    Filling l.count (columns_in l.rows) l.initial.nodes.kinds l.initial.nodes.a l.initial.nodes.b l.initial.nodes.c l.initial.nodes.values l.i
-    l.nodes.kinds l.nodes.a l.nodes.b l.nodes.c l.nodes.values
+    Filling l.count (columns_in l.rows) l.initial.columns.kinds l.initial.columns.a l.initial.columns.b l.initial.columns.c l.initial.columns.values l.i
+    l.columns.kinds l.columns.a l.columns.b l.columns.c l.columns.values

@@ -11,59 +11,54 @@ use Rattle.residual.proofs.Rows.{variable, function, application, fix, choice, o
 use Rattle.residual.proofs.CellLaws.{below_there, below_none, is_variable, is_row, is_constant}
 use Rattle.emission.proofs.Emission.{within_constant, emits_constant, emits_variable, emits_plain, within_child, emits_child}
 use Rattle.emission.proofs.Emission.{within_first, within_rest, emits_fields, emits_row, within_row}
-use Prim.Native.Nat.{ℕ, ◌<◌}
-use mathlib.Core.Path.{◌≡◌}
-use Rattle.lambdamix.specs.Code.{Code, number_after}
-use Rattle.script.specs.declared.Row.{Row}
 use Rattle.script.specs.KindRows.{kind_number}
-use Rattle.residual.specs.Cells.{row_pieces}
 use Rattle.emission.proofs.emit.+emits.Goals as goal
 
 pub emit-emit_row-requires : goal.emit-emit_row-requires
 emit-emit_row-requires t c =
-    (omega arith, ((c.requires.0.0, within_row (is_row (record { word = c.requires.1.1; kind = c.kind.ensures }) variable c.in-1.is refl) _ c.requires.0.1), c.requires.1.0))
+    (omega arith, ((c.requires.0.0, within_row (is_row (record { word = c.requires.1.1; kind = c.kind.ensures }) variable c.in-1.is c.step_row.ensures) _ c.requires.0.1), c.requires.1.0))
 
 pub emit-emit_row-requires-in-8 : goal.emit-emit_row-requires-in-8
 emit-emit_row-requires-in-8 t c =
-    (omega arith, ((c.requires.0.0, within_row (is_row (record { word = c.requires.1.1; kind = c.kind.ensures }) function c.in-8.is refl) _ c.requires.0.1), c.requires.1.0))
+    (omega arith, ((c.requires.0.0, within_row (is_row (record { word = c.requires.1.1; kind = c.kind.ensures }) function c.in-8.is c.step_row-in-8.ensures) _ c.requires.0.1), c.requires.1.0))
 
 pub emit-emit_row-requires-in-9 : goal.emit-emit_row-requires-in-9
 emit-emit_row-requires-in-9 t c =
-    (omega arith, ((c.requires.0.0, within_row (is_row (record { word = c.requires.1.1; kind = c.kind.ensures }) application c.in-9.is refl) _ c.requires.0.1), c.requires.1.0))
+    (omega arith, ((c.requires.0.0, within_row (is_row (record { word = c.requires.1.1; kind = c.kind.ensures }) application c.in-9.is c.step_row-in-9.ensures) _ c.requires.0.1), c.requires.1.0))
 
 pub emit-emit_row-requires-in-10 : goal.emit-emit_row-requires-in-10
 emit-emit_row-requires-in-10 t c =
-    (omega arith, ((c.requires.0.0, within_row (is_row (record { word = c.requires.1.1; kind = c.kind.ensures }) fix c.in-10.is refl) _ c.requires.0.1), c.requires.1.0))
+    (omega arith, ((c.requires.0.0, within_row (is_row (record { word = c.requires.1.1; kind = c.kind.ensures }) fix c.in-10.is c.step_row-in-10.ensures) _ c.requires.0.1), c.requires.1.0))
 
 pub emit-emit_row-requires-in-11 : goal.emit-emit_row-requires-in-11
 emit-emit_row-requires-in-11 t c =
-    (omega arith, ((c.requires.0.0, within_row (is_row (record { word = c.requires.1.1; kind = c.kind.ensures }) choice c.in-11.is refl) _ c.requires.0.1), c.requires.1.0))
+    (omega arith, ((c.requires.0.0, within_row (is_row (record { word = c.requires.1.1; kind = c.kind.ensures }) choice c.in-11.is c.step_row-in-11.ensures) _ c.requires.0.1), c.requires.1.0))
 
 pub emit-emit_row-requires-in-12 : goal.emit-emit_row-requires-in-12
 emit-emit_row-requires-in-12 t c =
-    (omega arith, ((c.requires.0.0, within_row (is_row (record { word = c.requires.1.1; kind = c.kind.ensures }) operation c.in-12.is refl) _ c.requires.0.1), c.requires.1.0))
+    (omega arith, ((c.requires.0.0, within_row (is_row (record { word = c.requires.1.1; kind = c.kind.ensures }) operation c.in-12.is c.step_row-in-12.ensures) _ c.requires.0.1), c.requires.1.0))
 
 pub emit-emit_constant-requires : goal.emit-emit_constant-requires
 emit-emit_constant-requires t c =
     (c.requires.0.0, within_constant (is_constant (record { word = c.requires.1.1; kind = c.kind.ensures }) (search rules)).code _ c.requires.0.1)
 
 pub emit-returns-in-1 : goal.emit-returns-in-1
-emit-returns-in-1 t c = emits_row (is_row (record { word = c.requires.1.1; kind = c.kind.ensures }) variable c.in-1.is refl) c.requires.0.1 c.emit_row.ensures
+emit-returns-in-1 t c = emits_row (is_row (record { word = c.requires.1.1; kind = c.kind.ensures }) variable c.in-1.is c.step_row.ensures) c.requires.0.1 c.emit_row.ensures
 
 pub emit-returns-in-8 : goal.emit-returns-in-8
-emit-returns-in-8 t c = emits_row (is_row (record { word = c.requires.1.1; kind = c.kind.ensures }) function c.in-8.is refl) c.requires.0.1 c.emit_row-in-8.ensures
+emit-returns-in-8 t c = emits_row (is_row (record { word = c.requires.1.1; kind = c.kind.ensures }) function c.in-8.is c.step_row-in-8.ensures) c.requires.0.1 c.emit_row-in-8.ensures
 
 pub emit-returns-in-9 : goal.emit-returns-in-9
-emit-returns-in-9 t c = emits_row (is_row (record { word = c.requires.1.1; kind = c.kind.ensures }) application c.in-9.is refl) c.requires.0.1 c.emit_row-in-9.ensures
+emit-returns-in-9 t c = emits_row (is_row (record { word = c.requires.1.1; kind = c.kind.ensures }) application c.in-9.is c.step_row-in-9.ensures) c.requires.0.1 c.emit_row-in-9.ensures
 
 pub emit-returns-in-10 : goal.emit-returns-in-10
-emit-returns-in-10 t c = emits_row (is_row (record { word = c.requires.1.1; kind = c.kind.ensures }) fix c.in-10.is refl) c.requires.0.1 c.emit_row-in-10.ensures
+emit-returns-in-10 t c = emits_row (is_row (record { word = c.requires.1.1; kind = c.kind.ensures }) fix c.in-10.is c.step_row-in-10.ensures) c.requires.0.1 c.emit_row-in-10.ensures
 
 pub emit-returns-in-11 : goal.emit-returns-in-11
-emit-returns-in-11 t c = emits_row (is_row (record { word = c.requires.1.1; kind = c.kind.ensures }) choice c.in-11.is refl) c.requires.0.1 c.emit_row-in-11.ensures
+emit-returns-in-11 t c = emits_row (is_row (record { word = c.requires.1.1; kind = c.kind.ensures }) choice c.in-11.is c.step_row-in-11.ensures) c.requires.0.1 c.emit_row-in-11.ensures
 
 pub emit-returns-in-12 : goal.emit-returns-in-12
-emit-returns-in-12 t c = emits_row (is_row (record { word = c.requires.1.1; kind = c.kind.ensures }) operation c.in-12.is refl) c.requires.0.1 c.emit_row-in-12.ensures
+emit-returns-in-12 t c = emits_row (is_row (record { word = c.requires.1.1; kind = c.kind.ensures }) operation c.in-12.is c.step_row-in-12.ensures) c.requires.0.1 c.emit_row-in-12.ensures
 
 pub emit-returns-in_default : goal.emit-returns-in_default
 emit-returns-in_default t c =
@@ -107,30 +102,25 @@ pub emit_piece-returns : goal.emit_piece-returns
 emit_piece-returns t c =
     rw (below_there c.args.codes.now c.args.p c.args.q c.if-p-q.false) c.emit.ensures
 
--- the fields' rows are that of the step
-by_row : (self : ℕ → Code) (x k : ℕ) {r q : Row} → r ≡ q → number_after k (row_pieces q self x) < max_nodes → number_after k (row_pieces r self x) < max_nodes
-by_row self x k e h = rw e h
-
 pub emit_row-emit_field-a-requires : goal.emit_row-emit_field-a-requires
 emit_row-emit_field-a-requires t c =
-    (omega arith, ((c.requires.0.0, within_first (code_below c.args.codes.now c.args.p) c.step_row-u.result.0 _ c.field_a.ensures _ (by_row (code_below c.args.codes.now c.args.p) c.args.x _ c.step_row-u.ensures c.requires.0.1)), c.requires.1))
+    (omega arith, ((c.requires.0.0, within_first (code_below c.args.codes.now c.args.p) c.args.row.0 _ c.field_a.ensures _ c.requires.0.1), c.requires.1))
 
 pub emit_row-emit_field-b-requires : goal.emit_row-emit_field-b-requires
 emit_row-emit_field-b-requires t c =
     let self = code_below c.args.codes.now c.args.p in
-    let rest = within_rest self c.step_row-u.result.0 _ c.field_a.ensures _ (by_row (code_below c.args.codes.now c.args.p) c.args.x _ c.step_row-u.ensures c.requires.0.1) c.emit_field-a.ensures.pieces.next in
-    (omega arith, ((c.requires.0.0, within_first self c.step_row-u.result.1 _ c.field_b.ensures _ rest), c.requires.1))
+    let rest = within_rest self c.args.row.0 _ c.field_a.ensures _ c.requires.0.1 c.emit_field-a.ensures.pieces.next in
+    (omega arith, ((c.requires.0.0, within_first self c.args.row.1 _ c.field_b.ensures _ rest), c.requires.1))
 
 pub emit_row-emit_field-c-requires : goal.emit_row-emit_field-c-requires
 emit_row-emit_field-c-requires t c =
     let self = code_below c.args.codes.now c.args.p in
-    let rest = within_rest self c.step_row-u.result.0 _ c.field_a.ensures _ (by_row (code_below c.args.codes.now c.args.p) c.args.x _ c.step_row-u.ensures c.requires.0.1) c.emit_field-a.ensures.pieces.next in
-    let last = within_rest self c.step_row-u.result.1 _ c.field_b.ensures _ rest c.emit_field-b.ensures.pieces.next in
-    (omega arith, ((c.requires.0.0, within_first self c.step_row-u.result.2 _ c.field_c.ensures _ last), c.requires.1))
+    let rest = within_rest self c.args.row.0 _ c.field_a.ensures _ c.requires.0.1 c.emit_field-a.ensures.pieces.next in
+    let last = within_rest self c.args.row.1 _ c.field_b.ensures _ rest c.emit_field-b.ensures.pieces.next in
+    (omega arith, ((c.requires.0.0, within_first self c.args.row.2 _ c.field_c.ensures _ last), c.requires.1))
 
 pub emit_row-returns : goal.emit_row-returns
 emit_row-returns t c =
-    rw (← c.step_row-u.ensures)
-    (emits_fields (code_below c.args.codes.now c.args.p) (kind_number c.args.step) c.args.x c.step_row-u.result c.field_a.ensures
+    emits_fields (code_below c.args.codes.now c.args.p) (kind_number c.args.step) c.args.x c.args.row c.field_a.ensures
     c.field_b.ensures c.field_c.ensures
-    c.emit_field-a.ensures c.emit_field-b.ensures c.emit_field-c.ensures c.emit_node.ensures)
+    c.emit_field-a.ensures c.emit_field-b.ensures c.emit_field-c.ensures c.emit_node.ensures
