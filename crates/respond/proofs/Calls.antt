@@ -1,12 +1,10 @@
 -- A call is answered by its input, where the output is long enough. Assumes nothing.
 use Rattle.std.specs.Prelude.{Err, Ok}
 use Prim.Native.Nat.{ℕ, ◌≤◌, ◌<◌}
-use mathlib.Core.Path.{◌≡◌}
+use mathlib.Core.Path.{◌≡◌, sym}
 use mathlib.Core.List.{List}
 use lib.ListN.{length}
-use borrow.Author.Tests.{lt-leb}
 use Rattle.lambdamix.specs.Limits.{max_bytes}
-use Rattle.lambdamix.specs.Refusal.{refused_unless}
 use Rattle.script.specs.Replies.{writing_reply, replying}
 use Rattle.script.specs.Tables.{written_output}
 use Rattle.script.specs.File.{head_inputs}
@@ -14,7 +12,7 @@ use Rattle.text.specs.Places.{most}
 use Rattle.streams.specs.Input.{script_part, settings_part}
 use Rattle.streams.specs.Responds.{output_refusal, Responds}
 use Rattle.streams.specs.Answers.{Answers}
-use Rattle.streams.proofs.Responding.{call_answered}
+use Rattle.streams.proofs.Responding.{call_answered, call_short}
 use Rattle.respond.specs.Response.{program_made, made_text}
 use Rattle.respond.specs.Stages.{made_texts}
 
@@ -24,10 +22,12 @@ pub input_written :
 input_written long small a = call_answered long small (a.answers long)
 
 -- one that is too short is told, and left as it was
-pub short_told : (out : List ℕ) (n : ℕ) → length out < max_bytes → replying (output_refusal out) n ≡ writing_reply (Err (record { number = 21; place = 0 }))
-unfolding writing_reply replying output_refusal refused_unless
-short_told out n h = rw (lt-leb max_bytes (length out) h)
+module _ (text out : List ℕ) (short : length out < max_bytes) where
+  refused : Responds text out out (Err (record { number = 21; place = 0 }))
+  refused = call_short short
 
-pub short_left : (out text : List ℕ) → length out < max_bytes → written_output (output_refusal out) text out ≡ out
-unfolding output_refusal refused_unless written_output
-short_left out text h = rw (lt-leb max_bytes (length out) h)
+  pub short_told : replying (output_refusal out) (length text) ≡ writing_reply (Err (record { number = 21; place = 0 }))
+  short_told = let w = refused in sym w.reply
+
+  pub short_left : written_output (output_refusal out) text out ≡ out
+  short_left = let w = refused in sym w.output
