@@ -23,10 +23,10 @@ module _ (n : Counts) (x : Tables) (out : List ℕ) (f : Refusal) (told : Tells 
   refused = writes_refused (tells_refusal told) refl refl
 
   pub refused_reply : replying (list_refusal n x out) (length (tables_text n x)) ≡ writing_reply (Err f)
-  refused_reply = let w = refused in sym w.reply
+  refused_reply = sym refused.reply
 
   pub refused_output : written_output (list_refusal n x out) (tables_text n x) out ≡ out
-  refused_output = let w = refused in sym w.output
+  refused_output = sym refused.output
 
 -- and those that pass, whose nodes are in the words, are listed.
 module _ (n : Counts) (x : Tables) (words before after : List ℕ) (r : Writing) (told : Tells (tables_refusal n.types n.inputs n.nodes x) (Ok tt))
@@ -38,7 +38,7 @@ module _ (n : Counts) (x : Tables) (words before after : List ℕ) (r : Writing)
       writes_passed free refl (listed.lists _ (passed_tells_none free refl) (packed.nodes refl))
 
   pub passed_reply : replying (list_refusal n x before) (length (tables_text n x)) ≡ writing_reply r
-  passed_reply = let w = passed in sym w.reply
+  passed_reply = sym passed.reply
 
   pub passed_output : written_output (list_refusal n x before) (tables_text n x) before ≡ after
-  passed_output = let w = passed in sym w.output
+  passed_output = sym passed.output

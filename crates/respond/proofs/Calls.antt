@@ -27,7 +27,7 @@ module _ (text out : List ℕ) (short : length out < max_bytes) where
   refused = call_short short
 
   pub short_told : replying (output_refusal out) (length text) ≡ writing_reply (Err (record { number = 21; place = 0 }))
-  short_told = let w = refused in sym w.reply
+  short_told = sym refused.reply
 
   pub short_left : written_output (output_refusal out) text out ≡ out
-  short_left = let w = refused in sym w.output
+  short_left = sym refused.output
