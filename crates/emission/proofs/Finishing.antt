@@ -1,6 +1,6 @@
 -- The end of a run that gave code: its file is put part behind part, and the reply and the output are those of paper 01, "26, 21".
 -- Assumes nothing.
-use Prim.Native.Nat.{ℕ, ◌+◌, ◌*◌, ◌-◌, ◌≤◌, ◌<◌}
+use Prim.Native.Nat.{ℕ, ◌+◌, ◌*◌, ◌≤◌, ◌<◌}
 use mathlib.Core.Path.{◌≡◌, refl, sym, ap, ◌∙◌}
 use mathlib.Core.Bool.{true, false}
 use mathlib.Core.List.{List, ◌++◌}
@@ -24,7 +24,6 @@ use Rattle.file.proofs.RecordLaws.{records_length}
 use Rattle.file.proofs.Layouts.{input_layout}
 use Rattle.file.proofs.FileLaws.{file_length_lem}
 use Rattle.file.proofs.WritingLaws.{put_length, put_both, put_same, put_over}
-use Rattle.residual.specs.Cells.{Counted}
 use Rattle.residual.specs.AfterRun.{written_by, after_run}
 use Rattle.emission.specs.Emission.{reply_of, outcome}
 
@@ -41,16 +40,6 @@ pub fits_small : {n : ℕ} (c : Code) → n ≡ size c → fits c ≡ true → n
 unfolding fits
 fits_small c e h =
     omega (arith, leb-true (size c) max_nodes (and_both (leb (size c) max_nodes) (leb (code_height c) max_height) h).0)
-
-module _ {c : Code} {r : ℕ} (s : Counted c r) where
-  pub counted_over : r ≡ 0 → fits c ≡ false
-  counted_over = s.over
-
-  pub counted_size : (r ≡ 0 → ⊥) → max_nodes + 1 - r ≡ size c
-  counted_size f = (s.left f).0
-
-  pub counted_fits : (r ≡ 0 → ⊥) → fits c ≡ true
-  counted_fits f = (s.left f).1
 
 -- ---- the file
 
